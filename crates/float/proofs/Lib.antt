@@ -1,0 +1,2 @@
+-- The laws of f32 that belong to no one function.
+pub mod Nan
