@@ -1,2 +1,3 @@
 -- The laws of f32 that belong to no one function.
 pub mod Nan
+pub mod Units
