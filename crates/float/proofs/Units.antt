@@ -108,7 +108,7 @@ units-tell s m e n d h k p =
 
 -- ---- what a bit pattern says: its field E and its digits t
 
-units-odd : (s : Bool) (t k : ℕ) → unitsOf (odd 24 s t k 149) ≡ t * 2 ^ k
+pub units-odd : (s : Bool) (t k : ℕ) → unitsOf (odd 24 s t k 149) ≡ t * 2 ^ k
 units-odd s t k = units-of-equal (odd 24 s t k 149) (t * 2 ^ k) (odd-val 24 s t k 149)
 
 units-low : (s : Bool) (t : ℕ) → unitsOf (ofFields binary32 s 0 t) ≡ t
@@ -124,7 +124,7 @@ units-high s x t h =
 suc-sub-one : (x : ℕ) → suc x - 1 ≡ x
 suc-sub-one x = omega arith
 
-no-sign : (b : ℕ) → b < 0x80000000 → ofBits binary32 b ≡ ofFields binary32 false (b / 8388608) (b % 8388608)
+pub no-sign : (b : ℕ) → b < 0x80000000 → ofBits binary32 b ≡ ofFields binary32 false (b / 8388608) (b % 8388608)
 unfolding ofBits
 no-sign b h = rw (lt-leb 0x80000000 b h, mod-eq-of-lt h)
 
@@ -142,7 +142,7 @@ pub units-of-high-pattern : (b : ℕ) → b < 0x7F800000 → 0 < b / 8388608 →
 units-of-high-pattern b h k = units-of-pattern b h ∙ rw (ne-eqb (b / 8388608) 0 (omega arith))
 
 -- and the value is finite and has no sign
-odd-is-fin : (d : ℕ) (s : Bool) (q k l : ℕ) → (m : ℕ) × (e : ℤ) × (odd d s q k l ≡ fin s m e)
+pub odd-is-fin : (d : ℕ) (s : Bool) (q k l : ℕ) → (m : ℕ) × (e : ℤ) × (odd d s q k l ≡ fin s m e)
 unfolding odd
 odd-is-fin d s zero k l = (0, pos 0, refl)
 odd-is-fin d s (suc q) k l = (suc q / 2 ^ trailingZeros d (suc q), minus (k + trailingZeros d (suc q)) l, refl)

@@ -1,0 +1,33 @@
+-- `root::scaled` meets its contract: a subnormal's digits are brought up by its leading zeros, and any other pattern has its 24 digits already. Assumes nothing.
+use Prim.Native.Nat.{_%_}
+use lib.Count.{leading-le}
+use native.Mathlib.Omega.{arith}
+use borrow.Author.Needs.{needs}
+use Rattle.root.proofs.Digits.{zeros-ahead, brought, Brought}
+use Rattle.root.proofs.Patterns.{low-pattern-scale, high-pattern-scale}
+use Rattle.root.proofs.scaled.Statement.{statement}
+use Rattle.root.proofs.scaled.Tie as tie
+
+sub-by : tie.Need-sub-by
+sub-by c = zeros-ahead _ (omega arith) (omega arith)
+
+shl-t6 : tie.Need-shl-t6
+shl-t6 c = omega (arith, leading-le 32 (c .before .args .bits % 8388608))
+
+sub-t7 : tie.Need-sub-t7
+sub-t7 c = omega (arith, leading-le 32 (c .before .args .bits % 8388608))
+
+returns : tie.Need-returns
+returns c = low-pattern-scale (c .before .args .bits) (c .before .pre .0) (c .if1 .taken)
+
+add-t8 : tie.Need-add-t8
+add-t8 c = search needs
+
+add-t9 : tie.Need-add-t9
+add-t9 c = search needs
+
+returns-2 : tie.Need-returns-2
+returns-2 c = high-pattern-scale (c .before .args .bits) (c .before .pre .1) (omega arith)
+
+pub scaled-spec : {M : Type 1} → statement M
+scaled-spec = tie.close (tie.spec sub-by shl-t6 sub-t7 returns add-t8 add-t9 returns-2)
