@@ -1,0 +1,3 @@
+-- The laws of bytes and words that belong to no one function.
+pub mod Bytes
+pub mod Laws
