@@ -1,17 +1,18 @@
--- A word that was written reads back, what stands beside it stays, and a word is its four bytes. Where a law asks that `at + 4` is at most the length, the word lies within the bytes; the others hold past the end too.
--- Rests on the laws of bytes of any number, in Bytes. Assumes nothing.
-use Prim.Native.Nat.{ℕ, zero, suc, _+_, _-_, _*_, _/_, _%_, _^_, _≤_, _<_}
-use mathlib.Core.Path.{_≡_, refl, sym, ap, ap₂, _∙_, subst}
+-- A word that was written reads back, what stands beside it stays, and a word is its four bytes. Where a law asks that `at + 4` is at most the length, the word lies
+-- within the bytes; the others hold past the end too. Rests on the laws of any number of bytes, in Bytes and Runs. Assumes nothing.
+use Prim.Native.Nat.{ℕ, suc, _+_, _*_, _/_, _%_, _^_, _≤_, _<_}
+use mathlib.Core.Path.{_≡_, sym, ap, _∙_}
 use mathlib.Core.Logic.{_⊎_, inl, inr}
-use mathlib.Core.List.{List, [], _∷_, _++_, append-assoc}
+use mathlib.Core.List.{List, _++_}
 use native.Mathlib.Nat.{div-div-eq-div-mul, add-zero, add-assoc}
 use native.Mathlib.Numerals.{add-one, add-two, add-three}
 use native.Mathlib.Omega.{arith}
 use lib.Dec.{lit<}
-use lib.ListN.{length, getD, take, drop, set, length-drop, List·getD-append}
-use lib.Seq.{sets, length-sets, sets-eq, take-at, drop-at, take-take, drop-drop, getD-drop, getD-take, getD-set-other, drop-set-lt, drop-set-add, take-set-le, length-take-le, drop-cons, set-getD, drop-append-add}
+use lib.ListN.{length, getD, take, drop, set, List·getD-append}
+use lib.Seq.{sets, length-sets, take-at, drop-drop, getD-drop, getD-take, drop-append-add}
 use Rattle.word.specs.Word.{littleEndian, bytesOf, wordAt, putWord}
 use Rattle.word.proofs.Bytes.{Bytes, bytes-take, bytes-drop, bytes-sets, length-bytesOf, bytesOf-are-bytes, littleEndian-bytesOf, bytesOf-littleEndian, littleEndian-tells, littleEndian-take, littleEndian-tells-each}
+use Rattle.word.proofs.Runs.{apart-sets, apart-byte, sets-at, sets-same, length-part}
 
 -- ---- the code's form: four bytes, each by its place
 
@@ -27,41 +28,6 @@ pub put-by-bytes : (bytes : List ℕ) (at w : ℕ)
     → putWord bytes at w ≡ set (set (set (set bytes at (w % 0x100)) (at + 1) (w / 0x100 % 0x100)) (at + 2) (w / 0x10000 % 0x100)) (at + 3) (w / 0x1000000 % 0x100)
 unfolding putWord
 put-by-bytes bytes at w = rw (add-one, add-two, add-three, div-div-eq-div-mul w 256 256, div-div-eq-div-mul w 65536 256)
-
--- ---- runs of bytes: what a store leaves, and what it changes
-
-module _ (n i : ℕ) where
-  apart-set : (l : List ℕ) (j a : ℕ) → (j < i) ⊎ (i + n ≤ j) → take n (drop i (set l j a)) ≡ take n (drop i l)
-  apart-set l j a (inl h) = ap (take n) (drop-set-lt i l j a h)
-  apart-set l j a (inr h) =
-      let e : i + (j - i) ≡ j = omega arith in
-      ap (λ (k : ℕ). take n (drop i (set l k a))) (sym e) ∙ ap (take n) (drop-set-add i l (j - i) a) ∙ take-set-le n (drop i l) (j - i) a (omega arith)
-
-  apart-sets : (vs l : List ℕ) (j : ℕ) → (j + length vs ≤ i) ⊎ (i + n ≤ j) → take n (drop i (sets l j vs)) ≡ take n (drop i l)
-  apart-sets [] l j h = refl
-  apart-sets (v ∷ vs) l j (inl h) = apart-sets vs (set l j v) (suc j) (inl (omega arith)) ∙ apart-set l j v (inl (omega arith))
-  apart-sets (v ∷ vs) l j (inr h) = apart-sets vs (set l j v) (suc j) (inr (omega arith)) ∙ apart-set l j v (inr h)
-
-apart-byte : (i d : ℕ) (vs l : List ℕ) (j : ℕ) → (i < j) ⊎ (j + length vs ≤ i) → getD (sets l j vs) i d ≡ getD l i d
-apart-byte i d [] l j h = refl
-apart-byte i d (v ∷ vs) l j (inl h) = apart-byte i d vs (set l j v) (suc j) (inl (omega arith)) ∙ getD-set-other l j i v d (omega arith)
-apart-byte i d (v ∷ vs) l j (inr h) = apart-byte i d vs (set l j v) (suc j) (inr (omega arith)) ∙ getD-set-other l j i v d (omega arith)
-
-sets-at : (vs l : List ℕ) (at : ℕ) → at + length vs ≤ length l → take (length vs) (drop at (sets l at vs)) ≡ vs
-sets-at vs l at h =
-    ap (λ (x : List ℕ). take (length vs) (drop at x)) (sets-eq vs l at h ∙ append-assoc (take at l) vs (drop (at + length vs) l))
-    ∙ ap (take (length vs)) (drop-at (take at l) (vs ++ drop (at + length vs) l) at (length-take-le at l (omega arith)))
-    ∙ take-at vs (drop (at + length vs) l) (length vs) refl
-
-sets-same : (n : ℕ) (l : List ℕ) (at : ℕ) → at + n ≤ length l → sets l at (take n (drop at l)) ≡ l
-sets-same zero l at h = refl
-sets-same (suc n) l at h =
-    ap (λ (x : List ℕ). sets l at (take (suc n) x)) (drop-cons l at 0 (omega arith))
-    ∙ ap (λ (x : List ℕ). sets x (suc at) (take n (drop (suc at) l))) (set-getD l at 0)
-    ∙ sets-same n l (suc at) (omega arith)
-
-length-part : (n : ℕ) (l : List ℕ) (at : ℕ) → at + n ≤ length l → length (take n (drop at l)) ≡ n
-length-part n l at h = length-take-le n (drop at l) (rw length-drop (omega arith))
 
 -- ---- writing
 
