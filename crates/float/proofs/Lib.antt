@@ -1,3 +1,6 @@
 -- The laws of f32 that belong to no one function.
 pub mod Nan
+pub mod Fraction
 pub mod Units
+pub mod Rank
+pub mod Order

@@ -2,7 +2,7 @@
 -- and the two fields of a bit pattern give it. Rests on the kit's `odd-val` and `ofBits-toBits`. Assumes nothing.
 use Prim.Native.Nat.{ℕ, zero, suc, _+_, _-_, _*_, _/_, _%_, _^_, _≤_, _<_}
 use mathlib.Core.Path.{_≡_, refl, sym, ap, _∙_, subst}
-use mathlib.Core.Bool.{Bool, true, false, not, _&&_, cond}
+use mathlib.Core.Bool.{Bool, true, false, _&&_, _||_, Bool·beq, cond}
 use native.Mathlib.Nat.{le-trans, mod-eq-of-lt, mul-assoc, mul-comm, mul-right-comm, mul-pos, mul-one, one-mul, zero-mul, mul-div-cancel, lt-of-not-le, le-of-suc-le-suc, lt-of-lt-of-le, lt-irrefl, mul-lt-mul-of-pos-right, lt-of-mul-lt-mul-right}
 use native.Mathlib.Omega.{arith}
 use borrow.Author.Tests.{lt-leb, eq-eqb, ne-eqb}
@@ -10,11 +10,12 @@ use lib.Count.{trailingZeros}
 use lib.Dec.{T, eqb·suc-zero, leb, ltb, eqb, eqb→eq, leb→le, ltb→lt, lit<, lit≤}
 use lib.IntN.{ℤ, pos, negsuc}
 use lib.Pow.{pow-add, pow-pos, pow-lt}
-use lib.Ieee.{Float, nan, inf, fin, binary32, prec, emax, low, up, down, minus, fits, toBits, ofBits, ofFields, odd, size, top, hid}
+use lib.Ieee.{Float, nan, inf, fin, binary32, up, down, minus, below, level, lt, eq, fits, toBits, ofBits, ofFields, odd, size, top, hid}
 use lib.Ieee.Fits.{and-l, and-r, up-pos, down-pos}
 use lib.Ieee.Digits.{Equals, odd-val}
 use lib.Ieee.Bits.{ofBits-toBits}
 use Rattle.float.specs.Units.{unitsOf}
+use Rattle.float.proofs.Fraction.{lt-over, eq-over}
 
 -- ---- what it says of `fin s m e` to fit
 
@@ -93,6 +94,27 @@ units-below nan h = lit< tt
 units-below (inf s) h = lit< tt
 units-below (fin s m e) h = below-of (unitsOf (fin s m e)) m (up e) (down e) (2 ^ 149) (2 ^ 128) (units-exact s m e h) (fits-held s m e h .small) (lit< tt)
 
+-- ---- it orders the values
+
+module _ (s : Bool) (m : ℕ) (e : ℤ) (t : Bool) (n : ℕ) (d : ℤ) (h : T (fits binary32 (fin s m e))) (k : T (fits binary32 (fin t n d))) where
+  pub lt-by-signed-units : lt (fin s m e) (fin t n d) ≡ below s (unitsOf (fin s m e)) t (unitsOf (fin t n d))
+  lt-by-signed-units = lt-over s m e t n d (unitsOf (fin s m e)) (unitsOf (fin t n d)) (2 ^ 149) (lit< tt) (sym (units-exact s m e h)) (sym (units-exact t n d k))
+
+  pub eq-by-signed-units : eq (fin s m e) (fin t n d) ≡ level s (unitsOf (fin s m e)) t (unitsOf (fin t n d))
+  eq-by-signed-units = eq-over s m e t n d (unitsOf (fin s m e)) (unitsOf (fin t n d)) (2 ^ 149) (lit< tt) (sym (units-exact s m e h)) (sym (units-exact t n d k))
+
+pub lt-by-units : (m : ℕ) (e : ℤ) (n : ℕ) (d : ℤ) → T (fits binary32 (fin false m e)) → T (fits binary32 (fin false n d)) → lt (fin false m e) (fin false n d) ≡ ltb (unitsOf (fin false m e)) (unitsOf (fin false n d))
+lt-by-units m e n d h k = lt-by-signed-units false m e false n d h k
+
+like-signs : (s x y : Bool) → (x && (Bool·beq s s || y)) ≡ x
+like-signs true true y = refl
+like-signs true false y = refl
+like-signs false true y = refl
+like-signs false false y = refl
+
+pub eq-by-units : (s : Bool) (m : ℕ) (e : ℤ) (n : ℕ) (d : ℤ) → T (fits binary32 (fin s m e)) → T (fits binary32 (fin s n d)) → eq (fin s m e) (fin s n d) ≡ eqb (unitsOf (fin s m e)) (unitsOf (fin s n d))
+eq-by-units s m e n d h k = eq-by-signed-units s m e s n d h k ∙ like-signs s _ _
+
 -- ---- the number and the sign tell the value
 
 toBits-of-units : (s : Bool) (m : ℕ) (e : ℤ)
@@ -105,6 +127,10 @@ units-tell s m e n d h k p =
     sym (ofBits-toBits binary32 (fin s m e) h)
     ∙ ap (ofBits binary32) (toBits-of-units s m e ∙ ap (λ (u : ℕ). cond s (top binary32) 0 + (size u - 24) * hid binary32 + u / 2 ^ (size u - 24)) p ∙ sym (toBits-of-units s n d))
     ∙ ofBits-toBits binary32 (fin s n d) k
+
+pub units-zero : (s : Bool) (m : ℕ) (e : ℤ) → T (fits binary32 (fin s m e)) → unitsOf (fin s m e) ≡ 0 → fin s m e ≡ fin s 0 (pos 0)
+unfolding unitsOf
+units-zero s m e h p = units-tell s m e 0 (pos 0) h (unfold fits in tt) p
 
 -- ---- what a bit pattern says: its field E and its digits t
 
