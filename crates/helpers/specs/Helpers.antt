@@ -1,6 +1,6 @@
 -- The functions of polyanya's src/helpers.rs, in its order, as document 01 has them under "Geometry". Rests on specs/Point. Assumes nothing.
 -- Each definition is what the contract of the function of that name says, with `Of` behind it.
-use mathlib.Core.Bool.{Bool, true, false, cond, _&&_, _||_}
+use mathlib.Core.Bool.{Bool, true, false, cond, _&&_}
 use lib.Ieee.{Float, binary32, add, sub, div, neg, lt, le}
 use Rattle.helpers.specs.declared.point.Point.{Point}
 use Rattle.helpers.specs.declared.point.Segment.{Segment}
@@ -10,7 +10,7 @@ use Rattle.helpers.specs.declared.Crossing.{Crossing}
 use Rattle.helpers.specs.declared.Crossing.the-variants.{At, Nowhere}
 use Rattle.helpers.specs.declared.Turn.{Turn}
 use Rattle.helpers.specs.declared.Turn.the-variants.{Around, Straight}
-use Rattle.helpers.specs.Point.{zero, one, two, epsilon, boxEpsilon, minusOf, plusOf, timesOf, sameOf, perpDotOf, distanceOf, projectOntoOf}
+use Rattle.helpers.specs.Point.{zero, one, two, epsilon, boxEpsilon, minusOf, plusOf, timesOf, sameOf, endsAtOf, perpDotOf, distanceOf, projectOntoOf}
 
 -- ---- side
 
@@ -91,23 +91,22 @@ lineIntersectSegmentOf line segment =
 -- ---- heuristic and turning point
 
 -- "If the goal is on the same side of the interval with the root, then we mirror it."
-unfoldable pub acrossOf : Point → Point → Segment → Point
-acrossOf root goal interval = cond (sameSideOf (sideOf root interval) (sideOf goal interval)) (mirrorOf goal interval) goal
+unfoldable pub goalBeyondOf : Point → Point → Segment → Point
+goalBeyondOf root goal interval = cond (sameSideOf (sideOf root interval) (sideOf goal interval)) (mirrorOf goal interval) goal
 
 -- The way to the goal, straight where the line of sight passes the interval, else by the end that it misses
 unfoldable pub heuristicOf : Point → Point → Segment → Float
 heuristicOf root goal interval =
-    let seen = acrossOf root goal interval in
+    let seen = goalBeyondOf root goal interval in
     let time = intersectionTimeOf (root, seen) interval in
-    cond (sameOf root (interval .0)) (distanceOf root seen)
-    (cond (sameOf root (interval .1)) (distanceOf root seen)
+    cond (endsAtOf interval root) (distanceOf root seen)
     (cond (lt time zero) (add binary32 (distanceOf root (interval .0)) (distanceOf (interval .0) seen))
     (cond (lt one time) (add binary32 (distanceOf root (interval .1)) (distanceOf (interval .1) seen))
-    (distanceOf root seen))))
+    (distanceOf root seen)))
 
 unfoldable pub turningPointOf : Point → Point → Segment → Turn
 turningPointOf root goal interval =
-    let seen = acrossOf root goal interval in
+    let seen = goalBeyondOf root goal interval in
     cond (sameOf root (interval .0)) Straight
     (cond (sameSideOf (sideOf seen (root, interval .0)) Right) (Around (interval .0))
     (cond (sameSideOf (sideOf seen (root, interval .1)) Left) (Around (interval .1))

@@ -1,10 +1,11 @@
 -- Points, their constants and their arithmetic, as document 01 has them under "Geometry". Rests on lib.Ieee's f32 and on the root of the crate `root`. Assumes nothing.
 -- Each definition is what the contract of the function of that name says, with `Of` behind it: `minusOf` for `minus`, `perpDotOf` for `perp_dot`.
 use Prim.Native.Nat.{ℕ}
-use mathlib.Core.Bool.{Bool, _&&_}
+use mathlib.Core.Bool.{Bool, _&&_, _||_}
 use lib.Ieee.{Float, binary32, ofBits, add, sub, mul, div, eq}
 use Rattle.root.specs.Root.{rootOf}
 use Rattle.helpers.specs.declared.point.Point.{Point}
+use Rattle.helpers.specs.declared.point.Segment.{Segment}
 
 -- ---- constants
 
@@ -59,6 +60,9 @@ timesOf p by = record { x = mul binary32 (p .x) by; y = mul binary32 (p .y) by }
 -- Rust's ==
 unfoldable pub sameOf : Point → Point → Bool
 sameOf p q = eq (p .x) (q .x) && eq (p .y) (q .y)
+
+unfoldable pub endsAtOf : Segment → Point → Bool
+endsAtOf s p = sameOf p (s .0) || sameOf p (s .1)
 
 -- ---- products and lengths
 

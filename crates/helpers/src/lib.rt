@@ -2,7 +2,7 @@
 // a segment, and how far it is to the goal through an interval.
 
 ghost use mathlib.Core.Path.{_≡_};
-ghost use Rattle.helpers.specs.Helpers.{magnitudeOf, sideOf, sameSideOf, mirrorOf, onSegmentOf, betweenOf, inBoundingBoxOf, minOf, maxOf, acrossOf, heuristicOf, turningPointOf, intersectionTimeOf, crossesOf, clampOf, lineIntersectSegmentOf};
+ghost use Rattle.helpers.specs.Helpers.{magnitudeOf, sideOf, sameSideOf, mirrorOf, onSegmentOf, betweenOf, inBoundingBoxOf, minOf, maxOf, goalBeyondOf, heuristicOf, turningPointOf, intersectionTimeOf, crossesOf, clampOf, lineIntersectSegmentOf};
 
 mod point;
 
@@ -29,7 +29,8 @@ pub enum Turn {
 }
 
 impl Point {
-    // Determines where relative to the given line the point is.
+    // Determines where relative to the given line the point is: Edge if the area is within EPSILON of zero, else Left if
+    // it is positive, else Right. NaN is Right.
     pub fn side(self, line: Segment) -> EdgeSide
         ensures { λ r. ⌜ r ≡ sideOf self line ⌝ }
     {
@@ -74,7 +75,7 @@ impl Point {
     }
 }
 
-// Rust's == on sides.
+// Rust's == on sides, which the proofs take only as a match.
 pub fn same_side(a: EdgeSide, b: EdgeSide) -> bool
     ensures { λ r. ⌜ r ≡ sameSideOf a b ⌝ }
 {
@@ -114,7 +115,7 @@ fn between(x: f32, a: f32, b: f32) -> bool
     min(a, b) - Point::BOX_EPSILON <= x && x <= max(a, b) + Point::BOX_EPSILON
 }
 
-// The second operand unless the first is less: so min(-0.0, 0.0) is 0.0, and a NaN comes back only as the second.
+// The second operand unless the comparison holds: so min(-0.0, 0.0) is 0.0, and a NaN comes back only as the second.
 pub fn min(x: f32, y: f32) -> f32
     ensures { λ r. ⌜ r ≡ minOf x y ⌝ }
 {
@@ -124,7 +125,7 @@ pub fn min(x: f32, y: f32) -> f32
     y
 }
 
-// The second operand unless the first is greater.
+// The second operand unless the comparison holds.
 pub fn max(x: f32, y: f32) -> f32
     ensures { λ r. ⌜ r ≡ maxOf x y ⌝ }
 {
@@ -134,9 +135,9 @@ pub fn max(x: f32, y: f32) -> f32
     y
 }
 
-// The goal as it is seen from the root through the interval: if both are on the same side of it, we mirror the goal.
-fn across(root: Point, goal: Point, interval: Segment) -> Point
-    ensures { λ r. ⌜ r ≡ acrossOf root goal interval ⌝ }
+// If the goal is on the same side of the interval with the root, then we mirror it.
+fn goal_beyond(root: Point, goal: Point, interval: Segment) -> Point
+    ensures { λ r. ⌜ r ≡ goalBeyondOf root goal interval ⌝ }
 {
     if same_side(root.side(interval), goal.side(interval)) {
         return goal.mirror(interval);
@@ -148,12 +149,9 @@ fn across(root: Point, goal: Point, interval: Segment) -> Point
 pub fn heuristic(root: Point, goal: Point, interval: Segment) -> f32
     ensures { λ r. ⌜ r ≡ heuristicOf root goal interval ⌝ }
 {
-    let goal = across(root, goal, interval);
+    let goal = goal_beyond(root, goal, interval);
     // Filter out the trivial cases.
-    if root.same(interval.0) {
-        return root.distance(goal);
-    }
-    if root.same(interval.1) {
+    if interval.ends_at(root) {
         return root.distance(goal);
     }
     // If the point is not in the estimated "line of sight", then the heuristic will
@@ -173,7 +171,7 @@ pub fn heuristic(root: Point, goal: Point, interval: Segment) -> f32
 pub fn turning_point(root: Point, goal: Point, interval: Segment) -> Turn
     ensures { λ r. ⌜ r ≡ turningPointOf root goal interval ⌝ }
 {
-    let goal = across(root, goal, interval);
+    let goal = goal_beyond(root, goal, interval);
     let right = interval.0;
     let left = interval.1;
     if root.same(right) {
@@ -221,7 +219,8 @@ fn clamp(time: f32) -> f32
     time
 }
 
-// Returns the intersection point of the given line and segment, if it exists.
+// Returns the intersection point of the given line and segment, if it exists: none if the time is NaN or outside
+// -EPSILON to 1 + EPSILON, else the point at the time clamped to 0..1.
 pub fn line_intersect_segment(line: Segment, segment: Segment) -> Crossing
     ensures { λ r. ⌜ r ≡ lineIntersectSegmentOf line segment ⌝ }
 {

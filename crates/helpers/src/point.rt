@@ -1,7 +1,7 @@
 // Points and what glam's Vec2 gives the helpers: sums, products and lengths, each f32 operation in document 01's order.
 
 ghost use mathlib.Core.Path.{_≡_};
-ghost use Rattle.helpers.specs.Point.{pointOf, fromBitsOf, minusOf, plusOf, timesOf, sameOf, dotOf, perpDotOf, lengthOf, distanceOf, distanceSquaredOf, projectOntoOf};
+ghost use Rattle.helpers.specs.Point.{pointOf, fromBitsOf, minusOf, plusOf, timesOf, sameOf, dotOf, perpDotOf, lengthOf, distanceOf, distanceSquaredOf, projectOntoOf, endsAtOf};
 
 // A point is two f32. It is also the way from one point to another.
 pub struct Point {
@@ -112,5 +112,14 @@ impl Point {
         ensures { λ r. ⌜ r ≡ projectOntoOf self other ⌝ }
     {
         other.times(self.dot(other)).times(1.0 / other.dot(other))
+    }
+}
+
+impl Segment {
+    // Whether a point is one of the two, by Point::same.
+    pub fn ends_at(self, point: Point) -> bool
+        ensures { λ r. ⌜ r ≡ endsAtOf self point ⌝ }
+    {
+        point.same(self.0) || point.same(self.1)
     }
 }
