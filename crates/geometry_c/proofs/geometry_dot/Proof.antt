@@ -1,0 +1,27 @@
+use borrow.Author.Needs.{needs}
+use Rattle.geometry_c.proofs.geometry_dot.Statement.{statement}
+use Rattle.geometry_c.proofs.geometry_dot.Tie as tie
+
+from-bits-requires : tie.Need-from-bits-requires
+from-bits-requires c κs = search needs
+
+from-bits-requires-2 : tie.Need-from-bits-requires-2
+from-bits-requires-2 c κs = search needs
+
+dot-requires : tie.Need-dot-requires
+dot-requires c κs = search needs
+
+to-bits-requires : tie.Need-to-bits-requires
+to-bits-requires c κs = search needs
+
+returns : tie.Need-returns
+returns c =
+    let c1 = c .before in
+    let c2 = c1 .before in
+    let c3 = c2 .before in
+    rw (← c3 .from-bits .ensures, ← c2 .from-bits2 .ensures, ← c1 .dot .ensures, ← c .to-bits .ensures)
+
+pub geometry-dot-spec : {M : Type 1} → statement M
+geometry-dot-spec =
+    tie.close
+    (tie.spec from-bits-requires from-bits-requires-2 dot-requires to-bits-requires returns)

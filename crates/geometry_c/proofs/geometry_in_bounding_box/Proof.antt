@@ -1,0 +1,27 @@
+use borrow.Author.Needs.{needs}
+use Rattle.geometry_c.proofs.geometry_in_bounding_box.Statement.{statement}
+use Rattle.geometry_c.proofs.geometry_in_bounding_box.Tie as tie
+
+from-bits-requires : tie.Need-from-bits-requires
+from-bits-requires c κs = search needs
+
+segment-requires : tie.Need-segment-requires
+segment-requires c κs = search needs
+
+in-bounding-box-requires : tie.Need-in-bounding-box-requires
+in-bounding-box-requires c κs = search needs
+
+truth-number-requires : tie.Need-truth-number-requires
+truth-number-requires c κs = search needs
+
+returns : tie.Need-returns
+returns c =
+    let c1 = c .before in
+    let c2 = c1 .before in
+    let c3 = c2 .before in
+    rw (← c3 .from-bits .ensures, ← c2 .segment .ensures, ← c1 .in-bounding-box .ensures, ← c .truth-number .ensures)
+
+pub geometry-in-bounding-box-spec : {M : Type 1} → statement M
+geometry-in-bounding-box-spec =
+    tie.close
+    (tie.spec from-bits-requires segment-requires in-bounding-box-requires truth-number-requires returns)

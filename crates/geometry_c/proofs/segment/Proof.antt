@@ -1,0 +1,21 @@
+use borrow.Author.Needs.{needs}
+use Rattle.geometry_c.specs.Export.{segmentOf}
+use Rattle.geometry_c.proofs.segment.Statement.{statement}
+use Rattle.geometry_c.proofs.segment.Tie as tie
+
+from-bits-requires : tie.Need-from-bits-requires
+from-bits-requires c κs = search needs
+
+from-bits-requires-2 : tie.Need-from-bits-requires-2
+from-bits-requires-2 c κs = search needs
+
+returns : tie.Need-returns
+unfolding segmentOf
+returns c =
+    let c1 = c .before in
+    rw (← c1 .from-bits .ensures, ← c .from-bits2 .ensures)
+
+pub segment-spec : {M : Type 1} → statement M
+segment-spec =
+    tie.close
+    (tie.spec from-bits-requires from-bits-requires-2 returns)

@@ -1,0 +1,28 @@
+use borrow.Author.Needs.{needs}
+use Rattle.helpers.specs.Helpers.{betweenOf}
+use Rattle.helpers.proofs.between.Statement.{statement}
+use Rattle.helpers.proofs.between.Tie as tie
+
+min-requires : tie.Need-min-requires
+min-requires c κs = search needs
+
+max-requires : tie.Need-max-requires
+max-requires c κs = search needs
+
+returns : tie.Need-returns
+unfolding betweenOf
+returns c =
+    let c1 = c .before in
+    let c2 = c1 .before in
+    rw (← c2 .min .ensures, c1 .if1 .taken, ← c .max .ensures)
+
+returns-2 : tie.Need-returns-2
+unfolding betweenOf
+returns-2 c =
+    let c1 = c .before in
+    rw (← c1 .min .ensures, c .if1 .left)
+
+pub between-spec : {M : Type 1} → statement M
+between-spec =
+    tie.close
+    (tie.spec min-requires max-requires returns returns-2)

@@ -1,0 +1,24 @@
+use Rattle.helpers.specs.Helpers.{clampOf}
+use Rattle.helpers.proofs.clamp.Statement.{statement}
+use Rattle.helpers.proofs.clamp.Tie as tie
+
+returns : tie.Need-returns
+unfolding clampOf
+returns c = rw (c .if1 .taken)
+
+returns-2 : tie.Need-returns-2
+unfolding clampOf
+returns-2 c =
+    let c1 = c .before in
+    rw (c1 .if1 .left, c .if2 .taken)
+
+returns-3 : tie.Need-returns-3
+unfolding clampOf
+returns-3 c =
+    let c1 = c .before in
+    rw (c1 .if1 .left, c .if2 .left)
+
+pub clamp-spec : {M : Type 1} → statement M
+clamp-spec =
+    tie.close
+    (tie.spec returns returns-2 returns-3)

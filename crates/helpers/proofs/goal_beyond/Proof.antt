@@ -1,0 +1,38 @@
+use borrow.Author.Needs.{needs}
+use Rattle.helpers.specs.Helpers.{goalBeyondOf}
+use Rattle.helpers.proofs.goal_beyond.Statement.{statement}
+use Rattle.helpers.proofs.goal_beyond.Tie as tie
+
+side-requires : tie.Need-side-requires
+side-requires c κs = search needs
+
+side-requires-2 : tie.Need-side-requires-2
+side-requires-2 c κs = search needs
+
+same-side-requires : tie.Need-same-side-requires
+same-side-requires c κs = search needs
+
+mirror-requires : tie.Need-mirror-requires
+mirror-requires c κs = search needs
+
+returns : tie.Need-returns
+unfolding goalBeyondOf
+returns c =
+    let c1 = c .before in
+    let c2 = c1 .before in
+    let c3 = c2 .before in
+    let c4 = c3 .before in
+    rw (← c4 .side .ensures, ← c3 .side2 .ensures, ← c2 .same-side .ensures, c1 .if1 .taken, ← c .mirror .ensures)
+
+returns-2 : tie.Need-returns-2
+unfolding goalBeyondOf
+returns-2 c =
+    let c1 = c .before in
+    let c2 = c1 .before in
+    let c3 = c2 .before in
+    rw (← c3 .side .ensures, ← c2 .side2 .ensures, ← c1 .same-side .ensures, c .if1 .left)
+
+pub goal-beyond-spec : {M : Type 1} → statement M
+goal-beyond-spec =
+    tie.close
+    (tie.spec side-requires side-requires-2 same-side-requires mirror-requires returns returns-2)

@@ -1,0 +1,78 @@
+use borrow.Author.Needs.{needs}
+use Rattle.helpers.specs.Helpers.{heuristicOf}
+use Rattle.helpers.proofs.heuristic.Statement.{statement}
+use Rattle.helpers.proofs.heuristic.Tie as tie
+
+goal-beyond-requires : tie.Need-goal-beyond-requires
+goal-beyond-requires c κs = search needs
+
+ends-at-requires : tie.Need-ends-at-requires
+ends-at-requires c κs = search needs
+
+distance-requires : tie.Need-distance-requires
+distance-requires c κs = search needs
+
+returns : tie.Need-returns
+unfolding heuristicOf
+returns c =
+    let c1 = c .before in
+    let c2 = c1 .before in
+    let c3 = c2 .before in
+    rw (← c3 .goal-beyond .ensures, ← c2 .ends-at .ensures, c1 .if1 .taken, ← c .distance .ensures)
+
+intersection-time-requires : tie.Need-intersection-time-requires
+intersection-time-requires c κs = search needs
+
+distance-requires-2 : tie.Need-distance-requires-2
+distance-requires-2 c κs = search needs
+
+distance-requires-3 : tie.Need-distance-requires-3
+distance-requires-3 c κs = search needs
+
+returns-2 : tie.Need-returns-2
+unfolding heuristicOf
+returns-2 c =
+    let c1 = c .before in
+    let c2 = c1 .before in
+    let c3 = c2 .before in
+    let c4 = c3 .before in
+    let c5 = c4 .before in
+    let c6 = c5 .before in
+    rw (← c6 .goal-beyond .ensures, ← c5 .ends-at .ensures, c4 .if1 .left, ← c3 .intersection-time .ensures, c2 .if2 .taken, ← c1 .distance2 .ensures, ← c .distance3 .ensures)
+
+distance-requires-4 : tie.Need-distance-requires-4
+distance-requires-4 c κs = search needs
+
+distance-requires-5 : tie.Need-distance-requires-5
+distance-requires-5 c κs = search needs
+
+returns-3 : tie.Need-returns-3
+unfolding heuristicOf
+returns-3 c =
+    let c1 = c .before in
+    let c2 = c1 .before in
+    let c3 = c2 .before in
+    let c4 = c3 .before in
+    let c5 = c4 .before in
+    let c6 = c5 .before in
+    let c7 = c6 .before in
+    rw (← c7 .goal-beyond .ensures, ← c6 .ends-at .ensures, c5 .if1 .left, ← c4 .intersection-time .ensures, c3 .if2 .left, c2 .if3 .taken, ← c1 .distance4 .ensures, ← c .distance5 .ensures)
+
+distance-requires-6 : tie.Need-distance-requires-6
+distance-requires-6 c κs = search needs
+
+returns-4 : tie.Need-returns-4
+unfolding heuristicOf
+returns-4 c =
+    let c1 = c .before in
+    let c2 = c1 .before in
+    let c3 = c2 .before in
+    let c4 = c3 .before in
+    let c5 = c4 .before in
+    let c6 = c5 .before in
+    rw (← c6 .goal-beyond .ensures, ← c5 .ends-at .ensures, c4 .if1 .left, ← c3 .intersection-time .ensures, c2 .if2 .left, c1 .if3 .left, ← c .distance6 .ensures)
+
+pub heuristic-spec : {M : Type 1} → statement M
+heuristic-spec =
+    tie.close
+    (tie.spec goal-beyond-requires ends-at-requires distance-requires returns intersection-time-requires distance-requires-2 distance-requires-3 returns-2 distance-requires-4 distance-requires-5 returns-3 distance-requires-6 returns-4)

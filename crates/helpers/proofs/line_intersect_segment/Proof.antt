@@ -1,0 +1,45 @@
+use borrow.Author.Needs.{needs}
+use Rattle.helpers.specs.Helpers.{lineIntersectSegmentOf}
+use Rattle.helpers.proofs.line_intersect_segment.Statement.{statement}
+use Rattle.helpers.proofs.line_intersect_segment.Tie as tie
+
+intersection-time-requires : tie.Need-intersection-time-requires
+intersection-time-requires c κs = search needs
+
+crosses-requires : tie.Need-crosses-requires
+crosses-requires c κs = search needs
+
+minus-requires : tie.Need-minus-requires
+minus-requires c κs = search needs
+
+clamp-requires : tie.Need-clamp-requires
+clamp-requires c κs = search needs
+
+times-requires : tie.Need-times-requires
+times-requires c κs = search needs
+
+plus-requires : tie.Need-plus-requires
+plus-requires c κs = search needs
+
+returns : tie.Need-returns
+unfolding lineIntersectSegmentOf
+returns c =
+    let c1 = c .before in
+    let c2 = c1 .before in
+    let c3 = c2 .before in
+    let c4 = c3 .before in
+    let c5 = c4 .before in
+    let c6 = c5 .before in
+    rw (← c6 .intersection-time .ensures, ← c5 .crosses .ensures, c4 .if1 .taken, ← c3 .minus .ensures, ← c2 .clamp .ensures, ← c1 .times .ensures, ← c .plus .ensures)
+
+returns-2 : tie.Need-returns-2
+unfolding lineIntersectSegmentOf
+returns-2 c =
+    let c1 = c .before in
+    let c2 = c1 .before in
+    rw (← c2 .intersection-time .ensures, ← c1 .crosses .ensures, c .if1 .left)
+
+pub line-intersect-segment-spec : {M : Type 1} → statement M
+line-intersect-segment-spec =
+    tie.close
+    (tie.spec intersection-time-requires crosses-requires minus-requires clamp-requires times-requires plus-requires returns returns-2)

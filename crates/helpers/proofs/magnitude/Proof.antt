@@ -1,0 +1,16 @@
+use Rattle.helpers.specs.Helpers.{magnitudeOf}
+use Rattle.helpers.proofs.magnitude.Statement.{statement}
+use Rattle.helpers.proofs.magnitude.Tie as tie
+
+returns : tie.Need-returns
+unfolding magnitudeOf
+returns c = rw (c .if1 .taken)
+
+returns-2 : tie.Need-returns-2
+unfolding magnitudeOf
+returns-2 c = rw (c .if1 .left)
+
+pub magnitude-spec : {M : Type 1} → statement M
+magnitude-spec =
+    tie.close
+    (tie.spec returns returns-2)

@@ -1,0 +1,21 @@
+use borrow.Author.Needs.{needs}
+use Rattle.helpers.specs.Point.{distanceOf}
+use Rattle.helpers.proofs.point.Point.distance.Statement.{statement}
+use Rattle.helpers.proofs.point.Point.distance.Tie as tie
+
+minus-requires : tie.Need-minus-requires
+minus-requires c κs = search needs
+
+length-requires : tie.Need-length-requires
+length-requires c κs = search needs
+
+returns : tie.Need-returns
+unfolding distanceOf
+returns c =
+    let c1 = c .before in
+    rw (← c1 .minus .ensures, ← c .length .ensures)
+
+pub distance-spec : {M : Type 1} → statement M
+distance-spec =
+    tie.close
+    (tie.spec minus-requires length-requires returns)

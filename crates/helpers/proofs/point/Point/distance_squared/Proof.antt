@@ -1,0 +1,21 @@
+use borrow.Author.Needs.{needs}
+use Rattle.helpers.specs.Point.{distanceSquaredOf}
+use Rattle.helpers.proofs.point.Point.distance_squared.Statement.{statement}
+use Rattle.helpers.proofs.point.Point.distance_squared.Tie as tie
+
+minus-requires : tie.Need-minus-requires
+minus-requires c κs = search needs
+
+dot-requires : tie.Need-dot-requires
+dot-requires c κs = search needs
+
+returns : tie.Need-returns
+unfolding distanceSquaredOf
+returns c =
+    let c1 = c .before in
+    rw (← c1 .minus .ensures, ← c .dot .ensures)
+
+pub distance-squared-spec : {M : Type 1} → statement M
+distance-squared-spec =
+    tie.close
+    (tie.spec minus-requires dot-requires returns)

@@ -1,0 +1,13 @@
+use mathlib.Core.Path.{refl}
+use Rattle.helpers.specs.Point.{dotOf}
+use Rattle.helpers.proofs.point.Point.dot.Statement.{statement}
+use Rattle.helpers.proofs.point.Point.dot.Tie as tie
+
+returns : tie.Need-returns
+unfolding dotOf
+returns c = refl
+
+pub dot-spec : {M : Type 1} → statement M
+dot-spec =
+    tie.close
+    (tie.spec returns)

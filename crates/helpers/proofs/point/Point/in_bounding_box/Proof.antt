@@ -1,0 +1,28 @@
+use borrow.Author.Needs.{needs}
+use Rattle.helpers.specs.Helpers.{inBoundingBoxOf}
+use Rattle.helpers.proofs.point.Point.in_bounding_box.Statement.{statement}
+use Rattle.helpers.proofs.point.Point.in_bounding_box.Tie as tie
+
+between-requires : tie.Need-between-requires
+between-requires c κs = search needs
+
+between-requires-2 : tie.Need-between-requires-2
+between-requires-2 c κs = search needs
+
+returns : tie.Need-returns
+unfolding inBoundingBoxOf
+returns c =
+    let c1 = c .before in
+    let c2 = c1 .before in
+    rw (← c2 .between .ensures, c1 .if1 .taken, ← c .between2 .ensures)
+
+returns-2 : tie.Need-returns-2
+unfolding inBoundingBoxOf
+returns-2 c =
+    let c1 = c .before in
+    rw (← c1 .between .ensures, c .if1 .left)
+
+pub in-bounding-box-spec : {M : Type 1} → statement M
+in-bounding-box-spec =
+    tie.close
+    (tie.spec between-requires between-requires-2 returns returns-2)

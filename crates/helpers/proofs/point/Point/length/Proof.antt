@@ -1,0 +1,21 @@
+use borrow.Author.Needs.{needs}
+use Rattle.helpers.specs.Point.{lengthOf}
+use Rattle.helpers.proofs.point.Point.length.Statement.{statement}
+use Rattle.helpers.proofs.point.Point.length.Tie as tie
+
+dot-requires : tie.Need-dot-requires
+dot-requires c κs = search needs
+
+root-requires : tie.Need-root-requires
+root-requires c κs = search needs
+
+returns : tie.Need-returns
+unfolding lengthOf
+returns c =
+    let c1 = c .before in
+    rw (← c1 .dot .ensures, ← c .root .ensures)
+
+pub length-spec : {M : Type 1} → statement M
+length-spec =
+    tie.close
+    (tie.spec dot-requires root-requires returns)

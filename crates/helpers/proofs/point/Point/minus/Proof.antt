@@ -1,0 +1,13 @@
+use mathlib.Core.Path.{refl}
+use Rattle.helpers.specs.Point.{minusOf}
+use Rattle.helpers.proofs.point.Point.minus.Statement.{statement}
+use Rattle.helpers.proofs.point.Point.minus.Tie as tie
+
+returns : tie.Need-returns
+unfolding minusOf
+returns c = refl
+
+pub minus-spec : {M : Type 1} → statement M
+minus-spec =
+    tie.close
+    (tie.spec returns)

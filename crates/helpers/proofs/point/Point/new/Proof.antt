@@ -1,0 +1,13 @@
+use mathlib.Core.Path.{refl}
+use Rattle.helpers.specs.Point.{pointOf}
+use Rattle.helpers.proofs.point.Point.new.Statement.{statement}
+use Rattle.helpers.proofs.point.Point.new.Tie as tie
+
+returns : tie.Need-returns
+unfolding pointOf
+returns c = refl
+
+pub new-spec : {M : Type 1} → statement M
+new-spec =
+    tie.close
+    (tie.spec returns)

@@ -1,0 +1,32 @@
+use borrow.Author.Needs.{needs}
+use Rattle.helpers.specs.Helpers.{onSegmentOf}
+use Rattle.helpers.proofs.point.Point.on_segment.Statement.{statement}
+use Rattle.helpers.proofs.point.Point.on_segment.Tie as tie
+
+in-bounding-box-requires : tie.Need-in-bounding-box-requires
+in-bounding-box-requires c κs = search needs
+
+side-requires : tie.Need-side-requires
+side-requires c κs = search needs
+
+same-side-requires : tie.Need-same-side-requires
+same-side-requires c κs = search needs
+
+returns : tie.Need-returns
+unfolding onSegmentOf
+returns c =
+    let c1 = c .before in
+    let c2 = c1 .before in
+    let c3 = c2 .before in
+    rw (← c3 .in-bounding-box .ensures, c2 .if1 .taken, ← c1 .side .ensures, ← c .same-side .ensures)
+
+returns-2 : tie.Need-returns-2
+unfolding onSegmentOf
+returns-2 c =
+    let c1 = c .before in
+    rw (← c1 .in-bounding-box .ensures, c .if1 .left)
+
+pub on-segment-spec : {M : Type 1} → statement M
+on-segment-spec =
+    tie.close
+    (tie.spec in-bounding-box-requires side-requires same-side-requires returns returns-2)

@@ -1,0 +1,13 @@
+use mathlib.Core.Path.{refl}
+use Rattle.helpers.specs.Point.{plusOf}
+use Rattle.helpers.proofs.point.Point.plus.Statement.{statement}
+use Rattle.helpers.proofs.point.Point.plus.Tie as tie
+
+returns : tie.Need-returns
+unfolding plusOf
+returns c = refl
+
+pub plus-spec : {M : Type 1} → statement M
+plus-spec =
+    tie.close
+    (tie.spec returns)

@@ -1,0 +1,18 @@
+use Rattle.helpers.specs.Point.{sameOf}
+use Rattle.helpers.proofs.point.Point.same.Statement.{statement}
+use Rattle.helpers.proofs.point.Point.same.Tie as tie
+
+returns : tie.Need-returns
+unfolding sameOf
+returns c =
+    let c2 = c .before .before in
+    rw (c2 .if1 .taken)
+
+returns-2 : tie.Need-returns-2
+unfolding sameOf
+returns-2 c = rw (c .if1 .left)
+
+pub same-spec : {M : Type 1} → statement M
+same-spec =
+    tie.close
+    (tie.spec returns returns-2)

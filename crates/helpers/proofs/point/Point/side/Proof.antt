@@ -1,0 +1,50 @@
+use borrow.Author.Needs.{needs}
+use Rattle.helpers.specs.Helpers.{sideOf}
+use Rattle.helpers.proofs.point.Point.side.Statement.{statement}
+use Rattle.helpers.proofs.point.Point.side.Tie as tie
+
+minus-requires : tie.Need-minus-requires
+minus-requires c κs = search needs
+
+minus-requires-2 : tie.Need-minus-requires-2
+minus-requires-2 c κs = search needs
+
+perp-dot-requires : tie.Need-perp-dot-requires
+perp-dot-requires c κs = search needs
+
+magnitude-requires : tie.Need-magnitude-requires
+magnitude-requires c κs = search needs
+
+returns : tie.Need-returns
+unfolding sideOf
+returns c =
+    let c1 = c .before in
+    let c2 = c1 .before in
+    let c3 = c2 .before in
+    let c4 = c3 .before in
+    rw (← c4 .minus .ensures, ← c3 .minus2 .ensures, ← c2 .perp-dot .ensures, ← c1 .magnitude .ensures, c .if1 .taken)
+
+returns-2 : tie.Need-returns-2
+unfolding sideOf
+returns-2 c =
+    let c1 = c .before in
+    let c2 = c1 .before in
+    let c3 = c2 .before in
+    let c4 = c3 .before in
+    let c5 = c4 .before in
+    rw (← c5 .minus .ensures, ← c4 .minus2 .ensures, ← c3 .perp-dot .ensures, ← c2 .magnitude .ensures, c1 .if1 .left, c .if2 .taken)
+
+returns-3 : tie.Need-returns-3
+unfolding sideOf
+returns-3 c =
+    let c1 = c .before in
+    let c2 = c1 .before in
+    let c3 = c2 .before in
+    let c4 = c3 .before in
+    let c5 = c4 .before in
+    rw (← c5 .minus .ensures, ← c4 .minus2 .ensures, ← c3 .perp-dot .ensures, ← c2 .magnitude .ensures, c1 .if1 .left, c .if2 .left)
+
+pub side-spec : {M : Type 1} → statement M
+side-spec =
+    tie.close
+    (tie.spec minus-requires minus-requires-2 perp-dot-requires magnitude-requires returns returns-2 returns-3)

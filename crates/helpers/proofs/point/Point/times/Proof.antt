@@ -1,0 +1,13 @@
+use mathlib.Core.Path.{refl}
+use Rattle.helpers.specs.Point.{timesOf}
+use Rattle.helpers.proofs.point.Point.times.Statement.{statement}
+use Rattle.helpers.proofs.point.Point.times.Tie as tie
+
+returns : tie.Need-returns
+unfolding timesOf
+returns c = refl
+
+pub times-spec : {M : Type 1} → statement M
+times-spec =
+    tie.close
+    (tie.spec returns)

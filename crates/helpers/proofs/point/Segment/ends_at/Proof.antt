@@ -1,0 +1,28 @@
+use borrow.Author.Needs.{needs}
+use Rattle.helpers.specs.Point.{endsAtOf}
+use Rattle.helpers.proofs.point.Segment.ends_at.Statement.{statement}
+use Rattle.helpers.proofs.point.Segment.ends_at.Tie as tie
+
+same-requires : tie.Need-same-requires
+same-requires c κs = search needs
+
+same-requires-2 : tie.Need-same-requires-2
+same-requires-2 c κs = search needs
+
+returns : tie.Need-returns
+unfolding endsAtOf
+returns c =
+    let c1 = c .before in
+    rw (← c1 .same .ensures, c .if1 .taken)
+
+returns-2 : tie.Need-returns-2
+unfolding endsAtOf
+returns-2 c =
+    let c1 = c .before in
+    let c2 = c1 .before in
+    rw (← c2 .same .ensures, c1 .if1 .left, ← c .same2 .ensures)
+
+pub ends-at-spec : {M : Type 1} → statement M
+ends-at-spec =
+    tie.close
+    (tie.spec same-requires same-requires-2 returns returns-2)

@@ -1,0 +1,70 @@
+use borrow.Author.Needs.{needs}
+use Rattle.helpers.specs.Helpers.{turningPointOf}
+use Rattle.helpers.proofs.turning_point.Statement.{statement}
+use Rattle.helpers.proofs.turning_point.Tie as tie
+
+goal-beyond-requires : tie.Need-goal-beyond-requires
+goal-beyond-requires c κs = search needs
+
+same-requires : tie.Need-same-requires
+same-requires c κs = search needs
+
+returns : tie.Need-returns
+unfolding turningPointOf
+returns c =
+    let c1 = c .before in
+    let c4 = c1 .before .before .before in
+    rw (← c4 .goal-beyond .ensures, ← c1 .same .ensures, c .if1 .taken)
+
+side-requires : tie.Need-side-requires
+side-requires c κs = search needs
+
+same-side-requires : tie.Need-same-side-requires
+same-side-requires c κs = search needs
+
+returns-2 : tie.Need-returns-2
+unfolding turningPointOf
+returns-2 c =
+    let c1 = c .before in
+    let c2 = c1 .before in
+    let c3 = c2 .before in
+    let c4 = c3 .before in
+    let c7 = c4 .before .before .before in
+    rw (← c7 .goal-beyond .ensures, ← c4 .same .ensures, c3 .if1 .left, ← c2 .side .ensures, ← c1 .same-side .ensures, c .if2 .taken)
+
+side-requires-2 : tie.Need-side-requires-2
+side-requires-2 c κs = search needs
+
+same-side-requires-2 : tie.Need-same-side-requires-2
+same-side-requires-2 c κs = search needs
+
+returns-3 : tie.Need-returns-3
+unfolding turningPointOf
+returns-3 c =
+    let c1 = c .before in
+    let c2 = c1 .before in
+    let c3 = c2 .before in
+    let c4 = c3 .before in
+    let c5 = c4 .before in
+    let c6 = c5 .before in
+    let c7 = c6 .before in
+    let c10 = c7 .before .before .before in
+    rw (← c10 .goal-beyond .ensures, ← c7 .same .ensures, c6 .if1 .left, ← c5 .side .ensures, ← c4 .same-side .ensures, c3 .if2 .left, ← c2 .side2 .ensures, ← c1 .same-side2 .ensures, c .if3 .taken)
+
+returns-4 : tie.Need-returns-4
+unfolding turningPointOf
+returns-4 c =
+    let c1 = c .before in
+    let c2 = c1 .before in
+    let c3 = c2 .before in
+    let c4 = c3 .before in
+    let c5 = c4 .before in
+    let c6 = c5 .before in
+    let c7 = c6 .before in
+    let c10 = c7 .before .before .before in
+    rw (← c10 .goal-beyond .ensures, ← c7 .same .ensures, c6 .if1 .left, ← c5 .side .ensures, ← c4 .same-side .ensures, c3 .if2 .left, ← c2 .side2 .ensures, ← c1 .same-side2 .ensures, c .if3 .left)
+
+pub turning-point-spec : {M : Type 1} → statement M
+turning-point-spec =
+    tie.close
+    (tie.spec goal-beyond-requires same-requires returns side-requires same-side-requires returns-2 side-requires-2 same-side-requires-2 returns-3 returns-4)
