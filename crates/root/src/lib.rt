@@ -74,22 +74,24 @@ fn kept(digits: u32, places: u32) -> u64
     (digits as u64) * 0x80_0000
 }
 
-// A number of 24 digits near the root, within a few units. Two steps of Newton's from a straight line that
-// is off by 3 in 100 at most. Only its range is proved: the search from it ends at the root wherever it starts.
+// A number near the root, within a few units. Two steps of Newton's from a straight line that is off by 3 in
+// 100 at most. Only its range is proved: the search from it ends at the root wherever it starts.
 fn guess(digits: u32, places: u32) -> u32
     requires { ⌜ (2 ^ 23 ≤ digits) × (digits < 2 ^ 24) ⌝ }
-    ensures { λ r. ⌜ r < 2 ^ 24 ⌝ }
+    ensures { λ r. ⌜ r < 2 ^ 25 ⌝ }
 {
+    // The digits as an f32 from 1 to 4, whose root, from 1 to 2, has the digits sought.
     let x = float::from_bits(digits + 0x3F00_0000 + (1 - places % 2) * 0x80_0000);
     let line = x * 0.34314575 + 0.6862915;
     let first = 0.5 * (line + x / line);
     let second = 0.5 * (first + x / first);
-    float::to_bits(second) % 0x80_0000 + 0x80_0000
+    // The pattern of 1 is 2 ^ 23 here, and that of 2 is 2 ^ 24: a guess just past either end stays near.
+    (float::to_bits(second) % 0x200_0000 + 0x100_0000) % 0x200_0000
 }
 
 // The whole number nearest to the root of n.
 fn nearest(n: u64, guess: u32) -> u32
-    requires { ⌜ (0 < n) × (n + 2 ^ 24 ≤ 2 ^ 48) × (guess < 2 ^ 24) ⌝ }
+    requires { ⌜ (0 < n) × (n + 2 ^ 24 ≤ 2 ^ 48) × (guess < 2 ^ 25) ⌝ }
     ensures { λ r. ⌜ Close n r ⌝ }
 {
     raised(n, lowered(n, guess as u64)) as u32
@@ -97,7 +99,7 @@ fn nearest(n: u64, guess: u32) -> u32
 
 // Down from the guess, to a number that is not too large.
 fn lowered(n: u64, guess: u64) -> u64
-    requires { ⌜ (0 < n) × (n < 2 ^ 48) × (guess < 2 ^ 24) ⌝ }
+    requires { ⌜ (0 < n) × (n < 2 ^ 48) × (guess < 2 ^ 25) ⌝ }
     ensures { λ r. ⌜ r * r < n + r ⌝ }
 {
     let mut q = guess;

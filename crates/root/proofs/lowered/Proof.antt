@@ -6,7 +6,7 @@ use Rattle.root.proofs.lowered.Statement.{statement}
 use Rattle.root.proofs.lowered.Tie as tie
 
 abbrev Inv-loop : tie.InvT-loop
-Inv-loop n guess q₀ q = q < 2 ^ 24
+Inv-loop n guess q₀ q = q < 2 ^ 25
 
 abbrev μ-loop : tie.MeasureT-loop
 μ-loop n guess q₀ q = q
