@@ -1,0 +1,106 @@
+# Sourced by run and sample: the packages, the workspace in target/oracle/crates, and the builds in it.
+# Wants: here (this folder), root (the repository), folder (the extract).
+
+out=$root/target/oracle
+crates=$out/crates
+processor=$(uname -m)
+mkdir -p "$out"
+
+fail() {
+    echo "oracle: $*" >&2
+    exit 2
+}
+
+as_root() {
+    if [ "$(id -u)" = 0 ]; then "$@"; else sudo "$@"; fi
+}
+
+install_missing() { # PACKAGE...
+    local missing=() package
+    for package in "$@"; do
+        dpkg-query -W -f '${db:Status-Status}\n' "$package" 2>/dev/null | grep -qx installed || missing+=("$package")
+    done
+    [ ${#missing[@]} -gt 0 ] || return 0
+    echo "oracle: installing ${missing[*]}"
+    as_root env DEBIAN_FRONTEND=noninteractive apt-get install -qq --no-install-recommends "${missing[@]}" >"$out/apt.log" 2>&1 ||
+        fail "apt-get could not install them ($out/apt.log says why; perhaps apt-get update helps)"
+}
+
+# Debian 12 has a current compiler under the name rustc-web; later releases have it as rustc.
+web() {
+    if apt-cache show rustc-web >/dev/null 2>&1; then echo -web; fi
+}
+
+# A compiler for this machine's own programs, and the crates that the extract leans on.
+install_rust() {
+    command -v apt-get >/dev/null || fail "the crates come as Debian packages, and there is no apt-get here"
+    install_missing gcc libc6-dev librust-smallvec-dev librust-hashbrown-dev librust-thiserror-dev
+    # A compiler at hand knows its own processor, so one that has to build for x86-64 elsewhere is Debian's.
+    if [ "$processor" = x86_64 ] && command -v cargo >/dev/null && command -v rustc >/dev/null; then
+        cargo=cargo rustc=rustc
+    else
+        install_missing "rustc$(web)" "cargo$(web)"
+        cargo=/usr/bin/cargo rustc=/usr/bin/rustc
+    fi
+}
+
+# What another processor needs to build and run a program for x86-64, for which alone rt writes a library.
+install_x86() {
+    emulator=''
+    [ "$processor" != x86_64 ] || return 0
+    if ! dpkg --print-foreign-architectures | grep -qx amd64; then
+        as_root dpkg --add-architecture amd64
+        as_root apt-get update -qq
+    fi
+    install_missing "libstd-rust$(web)-dev:amd64" gcc-x86-64-linux-gnu libc6-dev-amd64-cross libc6:amd64 qemu-user
+    export CARGO_TARGET_X86_64_UNKNOWN_LINUX_GNU_LINKER=x86_64-linux-gnu-gcc
+    emulator=qemu-x86_64
+}
+
+# glam's own text where Debian's mirror has it, else the stand-in. The package is source alone, the same for
+# every processor; it is of a later Debian than 12, so it is unpacked here and not installed.
+lay_glam() {
+    local name=librust-glam-dev_0.30.1-3_arm64.deb
+    local sum=b85bc22a857614195062551e2dcfbc7f2ef09360e45cba8777673b5f06673fb3
+    local package=$out/$name
+    [ -f "$package" ] || curl -fsS --max-time 60 -o "$package" "$name" || true
+    if echo "$sum  $package" | sha256sum --status -c 2>/dev/null; then
+        dpkg-deb -x "$package" "$out/glam"
+        cp -r "$out/glam/usr/share/cargo/registry/glam-0.30.1" "$crates/glam"
+        glam='glam 0.30.1'
+    else
+        rm -f "$package"
+        cp -r "$here/glam" "$crates/glam"
+        glam="our stand-in for glam only, whose own text could not be had"
+    fi
+}
+
+# The original's crate: the extract's three files as they are, among our stand-ins.
+lay_polyanya() {
+    local crate=$crates/polyanya
+    cp -r "$here/polyanya" "$crate"
+    mkdir "$crate/extract"
+    cp "$folder/lib.rs" "$folder/helpers.rs" "$crate/src/"
+    cp "$folder/instance.rs" "$crate/extract/"
+    # lib.rs takes its documentation from a README that is not in the extract.
+    touch "$crate/README.md"
+}
+
+# Laid anew each time, so that what is built is what is there now.
+lay_workspace() {
+    local file
+    for file in lib.rs helpers.rs instance.rs; do
+        [ -f "$folder/$file" ] || fail "no $file in $folder, where the extract should be"
+    done
+    rm -rf "$crates"
+    mkdir -p "$crates/.cargo"
+    cp -r "$here/Cargo.toml" "$here/rstar" "$here/geo" "$here/harness" "$crates/"
+    lay_glam
+    lay_polyanya
+    printf '%s\n' '[source.crates-io]' 'replace-with = "debian"' '[source.debian]' \
+        'directory = "/usr/share/cargo/registry"' >"$crates/.cargo/config.toml"
+}
+
+build() { # CARGO ARGUMENTS
+    (cd "$crates" && RUSTC=$rustc CARGO_TARGET_DIR=$out/cargo "$cargo" build --quiet --offline --release "$@")
+}

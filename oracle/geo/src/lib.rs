@@ -1,0 +1,1 @@
+//! Stands in for geo, which lib.rs passes on by name only.

@@ -1,0 +1,1 @@
+//! Stands in for the original's merger.rs, of which the extract uses nothing.

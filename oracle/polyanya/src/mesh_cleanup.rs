@@ -1,0 +1,1 @@
+//! Stands in for the original's mesh_cleanup.rs, of which the extract uses nothing.
