@@ -186,3 +186,17 @@ pub pattern-is-finite : (b : ℕ) → b < 0x7F800000 → (m : ℕ) × (e : ℤ) 
 pattern-is-finite b h =
     let r = fields-are-fin (b / 8388608) (b % 8388608) (omega arith) in
     (r .0, r .1, no-sign b (omega arith) ∙ r .2)
+
+-- ---- examples: the smallest f32, 1.0, and the largest
+
+smallest : unitsOf (ofBits binary32 0x00000001) ≡ 1
+unfolding unitsOf ofBits
+smallest = refl
+
+one : unitsOf (ofBits binary32 0x3F800000) ≡ 2 ^ 149
+unfolding unitsOf ofBits
+one = refl
+
+largest : unitsOf (ofBits binary32 0x7F7FFFFF) ≡ (2 ^ 24 - 1) * 2 ^ 253
+unfolding unitsOf ofBits
+largest = refl

@@ -8,11 +8,9 @@ use native.Mathlib.Omega.{arith}
 use lib.Dec.{lit<}
 use lib.ListN.{length, getD, take, drop, set}
 use lib.Seq.{sets}
-use Rattle.word.specs.Word.{littleEndian, bytesOf}
+use Rattle.word.specs.Word.{Bytes, littleEndian, bytesOf}
 
--- every element is a byte. Past the end `getD` gives 0, so nothing is asked of the index.
-abbrev pub Bytes : List ℕ → Type 0
-Bytes bs = (i : ℕ) → getD bs i 0 < 256
+-- ---- lists of bytes
 
 tail : (b : ℕ) (bs : List ℕ) → Bytes (b ∷ bs) → Bytes bs
 tail b bs h i = h (suc i)
