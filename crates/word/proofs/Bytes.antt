@@ -1,5 +1,5 @@
 -- Bytes and the number that they stand for, for lists of any length: a number below 256 ^ n and its n bytes give each other back, so the number tells the bytes.
--- Assumes nothing.
+-- A function that reads a slice of u8 has `Bytes` of it as `λ i. c .. .shared-slice-known .given i .fits`. Assumes nothing.
 use Prim.Native.Nat.{ℕ, zero, suc, _+_, _*_, _/_, _%_, _^_, _<_}
 use mathlib.Core.Path.{_≡_, refl, sym, ap, ap₂, _∙_}
 use mathlib.Core.List.{List, [], _∷_}
