@@ -1,37 +1,17 @@
 -- Finite values over a common denominator compare as their numerators do, with their signs. `Equals x a c` of the kit says that x is finite and of magnitude a / c.
 -- Rests on the definition of `lt` and `eq` alone. Assumes nothing.
 use Prim.Native.Nat.{ℕ, _+_, _*_, _<_}
-use mathlib.Core.Path.{_≡_, refl, sym, ap, ap₂, _∙_, subst}
+use mathlib.Core.Path.{_≡_, refl, sym, ap, ap₂, _∙_}
 use mathlib.Core.Bool.{Bool, true, false, _&&_, _||_, Bool·beq}
-use mathlib.Core.Logic.{_⊎_, inl, inr}
 use native.Mathlib.Nat.{add-mul, zero-mul, mul-pos, mul-comm, mul-right-comm, mul-assoc, mul-lt-mul-of-pos-right, lt-of-mul-lt-mul-right, eq-of-mul-eq-mul-right}
-use borrow.Author.Tests.{ltb-true, eqb-true, lt-ltb, eq-eqb}
-use lib.Dec.{T, ltb, eqb}
+use lib.Dec.{ltb, eqb}
 use lib.IntN.{ℤ}
 use lib.Ieee.{fin, up, down, below, level, lt, eq}
 use lib.Ieee.Fits.{down-pos}
 use lib.Ieee.Digits.{Equals}
+use Rattle.float.proofs.Tests.{same-ltb, same-eqb}
 
--- ---- tests
-
-pub same-test : (a b : Bool) → (a ≡ true → b ≡ true) → (b ≡ true → a ≡ true) → a ≡ b
-same-test true b p q = sym (p refl)
-same-test false true p q = q refl
-same-test false false p q = refl
-
-pub and-true : (a b : Bool) → (a && b) ≡ true → (a ≡ true) × (b ≡ true)
-and-true true b h = (refl, h)
-and-true false b h = absurd (subst T (sym h) tt)
-
-pub or-true : (a b : Bool) → (a || b) ≡ true → (a ≡ true) ⊎ (b ≡ true)
-or-true true b h = inl refl
-or-true false b h = inr h
-
-pub same-ltb : (a b c d : ℕ) → (a < b → c < d) → (c < d → a < b) → ltb a b ≡ ltb c d
-same-ltb a b c d p q = same-test (ltb a b) (ltb c d) (λ h. lt-ltb c d (p (ltb-true a b h))) (λ h. lt-ltb a b (q (ltb-true c d h)))
-
-pub same-eqb : (a b c d : ℕ) → (a ≡ b → c ≡ d) → (c ≡ d → a ≡ b) → eqb a b ≡ eqb c d
-same-eqb a b c d p q = same-test (eqb a b) (eqb c d) (λ h. eq-eqb c d (p (eqb-true a b h))) (λ h. eq-eqb a b (q (eqb-true c d h)))
+-- ---- a positive factor on both sides
 
 ltb-scale : (a b c : ℕ) → 0 < c → ltb a b ≡ ltb (a * c) (b * c)
 ltb-scale a b c p = same-ltb a b (a * c) (b * c) (λ h. mul-lt-mul-of-pos-right h p) (λ h. lt-of-mul-lt-mul-right c h)

@@ -1,14 +1,14 @@
--- Which patterns and which values are NaN, and that a comparison that passed had none. Assumes nothing.
+-- Which patterns and which values are NaN, and that a comparison that came out true had none on either side. Assumes nothing.
 use Prim.Native.Nat.{ℕ, _*_, _%_, _≤_, _<_}
-use mathlib.Core.Path.{_≡_, refl, sym, _∙_, ap, subst}
+use mathlib.Core.Path.{_≡_, refl, sym, _∙_, subst}
 use mathlib.Core.Bool.{Bool, true, false, not}
 use mathlib.Core.Logic.{_⊎_, ⊎-elim}
+use borrow.Author.Tests.{lt-ltb, le-ltb, eq-eqb}
 use lib.Dec.{T}
 use lib.Ieee.{Float, nan, inf, fin, up, down, binary32, ofBits, nanBits, isNan, lt, le, eq, ne}
 use lib.Ieee.Bits.{nanBits-is, nanBits-above}
 use lib.Ieee.Compare.{differs-from-itself}
-use Rattle.float.proofs.Fraction.{or-true}
-use borrow.Author.Tests.{lt-ltb, le-ltb, eq-eqb}
+use Rattle.float.proofs.Tests.{untrue, or-true}
 
 -- ---- patterns
 
@@ -26,14 +26,6 @@ other-pattern b h = subst (λ (t : Bool). T (not t)) (sym (nanBits-above binary3
 
 -- ---- values that are told apart from themselves
 
-pub no-nan-is-same : (x : Float) → T (not (isNan x)) → ne x x ≡ false
-unfolding ne isNan
-no-nan-is-same nan h = absurd h
-no-nan-is-same (inf true) h = refl
-no-nan-is-same (inf false) h = refl
-no-nan-is-same (fin true m d) h = rw (eq-eqb (m * up d * down d) _ refl)
-no-nan-is-same (fin false m d) h = rw (eq-eqb (m * up d * down d) _ refl)
-
 pub differs-is-nan : (x : Float) → ne x x ≡ true → x ≡ nan
 differs-is-nan x e = differs-from-itself x (subst T (sym e) tt)
 
@@ -43,10 +35,15 @@ same-is-no-nan nan e = absurd (subst T e tt)
 same-is-no-nan (inf s) e = tt
 same-is-no-nan (fin s m d) e = tt
 
--- ---- a comparison that came out true
+pub no-nan-is-same : (x : Float) → T (not (isNan x)) → ne x x ≡ false
+unfolding ne isNan
+no-nan-is-same nan h = absurd h
+no-nan-is-same (inf true) h = refl
+no-nan-is-same (inf false) h = refl
+no-nan-is-same (fin true m d) h = rw (eq-eqb (m * up d * down d) _ refl)
+no-nan-is-same (fin false m d) h = rw (eq-eqb (m * up d * down d) _ refl)
 
-untrue : {A : Type 0} → false ≡ true → A
-untrue e = absurd (subst T (sym e) tt)
+-- ---- a comparison that came out true
 
 pub lt-no-nan : (x y : Float) → lt x y ≡ true → T (not (isNan x)) × T (not (isNan y))
 unfolding lt isNan

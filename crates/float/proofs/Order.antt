@@ -1,23 +1,19 @@
 -- The order of the floats, over any `Float`, in a format or not. NaN is before nothing and equals nothing; all others stand in one line, the two zeros at one place.
 -- A law asks that a value is no NaN only where no comparison that came out true shows it. Each law is that law of ℕ, through the ranks. Assumes nothing.
+use Prim.Native.Nat.{ℕ}
 use mathlib.Core.Path.{_≡_, refl, sym, ap, ap₂, _∙_, subst}
 use mathlib.Core.Bool.{Bool, true, false, not, _||_, Bool·beq}
 use mathlib.Core.Logic.{_⊎_, inl, inr, ⊎-elim}
-use lib.IntN.{ℤ, pos}
-use Prim.Native.Nat.{ℕ}
-use borrow.Author.Tests.{eqb-true}
 use native.Mathlib.Omega.{arith}
+use borrow.Author.Tests.{eqb-true}
+use lib.IntN.{ℤ, pos}
 use lib.Dec.{T, eqb}
-use lib.Ieee.{Float, nan, inf, fin, binary32, fits, isNan, lt, le, eq}
+use lib.Ieee.{Float, nan, inf, fin, binary32, fits, isNan, lt, le, eq, ne}
 use Rattle.float.proofs.Nan.{lt-no-nan, eq-no-nan, le-no-nan}
 use Rattle.float.specs.Units.{unitsOf}
-use Rattle.float.proofs.Fraction.{same-test, and-true, or-true}
+use Rattle.float.proofs.Tests.{untrue, failed, same-test, and-true, or-true}
 use Rattle.float.proofs.Units.{units-tell, units-zero, eq-by-signed-units}
 use Rattle.float.proofs.Rank.{ranks, before, not-before, equal, at-most, is-before, is-not-before, is-equal, is-not-equal, is-at-most}
-
-untrue : (b : Bool) → (b ≡ true → ⊥) → b ≡ false
-untrue true f = absurd (f refl)
-untrue false f = refl
 
 -- ---- lt
 
@@ -28,7 +24,7 @@ lt-asymmetric x y h =
     is-not-before (r .yx) (omega (arith, before (r .xy) h))
 
 pub lt-irreflexive : (x : Float) → lt x x ≡ false
-lt-irreflexive x = untrue (lt x x) (λ h. let z = sym h ∙ lt-asymmetric x x h in subst T z tt)
+lt-irreflexive x = failed (lt x x) (λ h. untrue (sym (lt-asymmetric x x h) ∙ h))
 
 pub lt-transitive : (x y z : Float) → lt x y ≡ true → lt y z ≡ true → lt x z ≡ true
 lt-transitive x y z h k =
@@ -66,6 +62,10 @@ eq-transitive x y z h k =
     let n = eq-no-nan x y h in
     let r = ranks x y z (n .0) (n .1) (eq-no-nan y z k .1) in
     is-equal (r .xz) (equal (r .xy) h ∙ equal (r .yz) k)
+
+pub ne-not-eq : (x y : Float) → ne x y ≡ not (eq x y)
+unfolding ne
+ne-not-eq x y = refl
 
 -- ---- no comparison tells equal values apart
 
@@ -179,10 +179,10 @@ fin-same s m e t n d p q h =
 
 pub eq-same : (x y : Float) → T (fits binary32 x) → T (fits binary32 y) → eq x y ≡ true → (x ≡ y) ⊎ (IsZero x × IsZero y)
 unfolding eq
-eq-same nan y p q h = absurd (subst T (sym h) tt)
-eq-same (inf s) nan p q h = absurd (subst T (sym h) tt)
+eq-same nan y p q h = untrue h
+eq-same (inf s) nan p q h = untrue h
 eq-same (inf s) (inf t) p q h = inl (ap inf (same-sign s t h))
-eq-same (inf s) (fin t n d) p q h = absurd (subst T (sym h) tt)
-eq-same (fin s m e) nan p q h = absurd (subst T (sym h) tt)
-eq-same (fin s m e) (inf t) p q h = absurd (subst T (sym h) tt)
+eq-same (inf s) (fin t n d) p q h = untrue h
+eq-same (fin s m e) nan p q h = untrue h
+eq-same (fin s m e) (inf t) p q h = untrue h
 eq-same (fin s m e) (fin t n d) p q h = fin-same s m e t n d p q h

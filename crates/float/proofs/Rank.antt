@@ -1,17 +1,17 @@
 -- Any three floats but NaN have ranks: natural numbers that compare as they do. So a law of the order of ℕ is a law of the floats, infinities and both zeros included.
 -- The finite ones are written over a common denominator 1 / l, and moved up by a number k above all of them, where the infinities stand. Assumes nothing.
 use Prim.Native.Nat.{ℕ, suc, _+_, _-_, _*_, _≤_, _<_}
-use mathlib.Core.Path.{_≡_, refl, sym, ap, ap₂, _∙_, subst}
+use mathlib.Core.Path.{_≡_, refl, sym, ap, ap₂, _∙_}
 use mathlib.Core.Bool.{Bool, true, false, not, _&&_, _||_, Bool·beq, cond}
 use native.Mathlib.Omega.{arith}
-use mathlib.Core.Logic.{_⊎_, inl, inr, ⊎-elim}
-use native.Mathlib.Nat.{mul-pos, eq-or-lt-of-le}
-use borrow.Author.Tests.{ltb-true, ltb-false, leb-true, leb-false, eqb-true, eqb-false, lt-ltb, le-ltb, le-leb, lt-leb, eq-eqb, ne-eqb}
+use native.Mathlib.Nat.{mul-pos}
+use borrow.Author.Tests.{ltb-true, ltb-false, leb-true, eqb-true, lt-ltb, le-ltb, le-leb, eq-eqb, ne-eqb}
 use lib.Dec.{T, ltb, leb, eqb}
 use lib.Ieee.{Float, nan, inf, fin, up, down, below, level, isNan, lt, le, eq}
 use lib.Ieee.Digits.{Equals}
 use lib.Ieee.Positive.{num, den, den-pos}
-use Rattle.float.proofs.Fraction.{same-test, same-ltb, same-eqb, and-true, or-true, lt-over, eq-over}
+use Rattle.float.proofs.Tests.{same-test, same-ltb, same-eqb, and-true, lt-or-eq-leb}
+use Rattle.float.proofs.Fraction.{lt-over, eq-over}
 
 -- ---- ranks of signed numbers up to k
 
@@ -115,19 +115,6 @@ pub record Like (x y : Float) (a b : ℕ) : Type 0 where
   pub lt-like : lt x y ≡ ltb a b
   pub eq-like : eq x y ≡ eqb a b
 
-lt-or-eq : (a b : ℕ) → (ltb a b || eqb a b) ≡ leb a b
-lt-or-eq a b = same-test (ltb a b || eqb a b) (leb a b) (λ h. le-leb a b (there h)) (λ h. back (leb-true a b h))
-  where
-    there : (ltb a b || eqb a b) ≡ true → a ≤ b
-    there h = ⊎-elim (λ p. omega (arith, ltb-true a b p)) (λ p. omega (arith, eqb-true a b p)) (or-true (ltb a b) (eqb a b) h)
-
-    yes-or : (p : Bool) → (p || true) ≡ true
-    yes-or true = refl
-    yes-or false = refl
-
-    back : a ≤ b → (ltb a b || eqb a b) ≡ true
-    back h = elim (eq-or-lt-of-le h) [ inl p ↦ rw (eq-eqb a b p) (yes-or (ltb a b)) | inr p ↦ rw (lt-ltb a b p) ]
-
 module _ {x y : Float} {a b : ℕ} (r : Like x y a b) where
   pub before : lt x y ≡ true → a < b
   before h = ltb-true a b (sym (r .lt-like) ∙ h)
@@ -152,7 +139,7 @@ module _ {x y : Float} {a b : ℕ} (r : Like x y a b) where
 
   pub le-like : le x y ≡ leb a b
   unfolding le
-  le-like = ap₂ _||_ (r .lt-like) (r .eq-like) ∙ lt-or-eq a b
+  le-like = ap₂ _||_ (r .lt-like) (r .eq-like) ∙ lt-or-eq-leb a b
 
   pub at-most : le x y ≡ true → a ≤ b
   at-most h = leb-true a b (sym le-like ∙ h)
@@ -160,7 +147,7 @@ module _ {x y : Float} {a b : ℕ} (r : Like x y a b) where
   pub is-at-most : a ≤ b → le x y ≡ true
   is-at-most h = le-like ∙ le-leb a b h
 
--- ---- three floats
+-- ---- three floats, and for two of them the third is one of the two
 
 pub record Ranks (x y z : Float) : Type 0 where
   pub a : ℕ
@@ -169,6 +156,7 @@ pub record Ranks (x y z : Float) : Type 0 where
   pub xy : Like x y a b
   pub yx : Like y x b a
   pub yz : Like y z b c
+  pub zy : Like z y c b
   pub xz : Like x z a c
   pub zx : Like z x c a
 
@@ -202,6 +190,7 @@ ranks x y z nx ny nz =
       xy = like l k L x y u v p q;
       yx = like l k L y x v u q p;
       yz = like l k L y z v w q r;
+      zy = like l k L z y w v r q;
       xz = like l k L x z u w p r;
       zx = like l k L z x w u r p;
     }

@@ -3,13 +3,13 @@
 use Prim.Native.Nat.{ℕ, zero, suc, _+_, _-_, _*_, _/_, _%_, _^_, _≤_, _<_}
 use mathlib.Core.Path.{_≡_, refl, sym, ap, _∙_, subst}
 use mathlib.Core.Bool.{Bool, true, false, _&&_, _||_, Bool·beq, cond}
-use native.Mathlib.Nat.{le-trans, mod-eq-of-lt, mul-assoc, mul-comm, mul-right-comm, mul-pos, mul-one, one-mul, zero-mul, mul-div-cancel, lt-of-not-le, le-of-suc-le-suc, lt-of-lt-of-le, lt-irrefl, mul-lt-mul-of-pos-right, lt-of-mul-lt-mul-right}
+use native.Mathlib.Nat.{le-trans, mod-eq-of-lt, mul-assoc, mul-right-comm, mul-pos, mul-one, one-mul, zero-mul, mul-div-cancel, lt-of-not-le, le-of-suc-le-suc, lt-of-lt-of-le, lt-irrefl, mul-lt-mul-of-pos-right, lt-of-mul-lt-mul-right}
 use native.Mathlib.Omega.{arith}
 use borrow.Author.Tests.{lt-leb, eq-eqb, ne-eqb}
 use lib.Count.{trailingZeros}
 use lib.Dec.{T, eqb·suc-zero, leb, ltb, eqb, eqb→eq, leb→le, ltb→lt, lit<, lit≤}
 use lib.IntN.{ℤ, pos, negsuc}
-use lib.Pow.{pow-add, pow-pos, pow-lt}
+use lib.Pow.{pow-add, pow-lt}
 use lib.Ieee.{Float, nan, inf, fin, binary32, up, down, minus, below, level, lt, eq, fits, toBits, ofBits, ofFields, odd, size, top, hid}
 use lib.Ieee.Fits.{and-l, and-r, up-pos, down-pos}
 use lib.Ieee.Digits.{Equals, odd-val}
@@ -22,6 +22,7 @@ use Rattle.float.proofs.Fraction.{lt-over, eq-over}
 one-is-low : (u d : ℕ) → 0 < u → u * d ≡ 1 → d ≤ 1
 one-is-low (suc u) d p h = omega (arith, h)
 
+-- m has 24 binary digits, e is no lower than -149, and the value is below 2 ^ 128
 pub record Held (m : ℕ) (e : ℤ) : Type 0 where
   pub short : m < 2 ^ 24
   pub fine : down e ≤ 2 ^ 149
@@ -132,7 +133,7 @@ pub units-zero : (s : Bool) (m : ℕ) (e : ℤ) → T (fits binary32 (fin s m e)
 unfolding unitsOf
 units-zero s m e h p = units-tell s m e 0 (pos 0) h (unfold fits in tt) p
 
--- ---- what a bit pattern says: its field E and its digits t
+-- ---- what a bit pattern without a sign says: its exponent's field E is b / 8388608, its digits t are b % 8388608. E = 0 has no leading digit, and counts as E = 1
 
 pub units-odd : (s : Bool) (t k : ℕ) → unitsOf (odd 24 s t k 149) ≡ t * 2 ^ k
 units-odd s t k = units-of-equal (odd 24 s t k 149) (t * 2 ^ k) (odd-val 24 s t k 149)
@@ -167,7 +168,8 @@ units-of-low-pattern b h = units-of-pattern b (omega arith) ∙ rw (eq-eqb (b / 
 pub units-of-high-pattern : (b : ℕ) → b < 0x7F800000 → 0 < b / 8388608 → unitsOf (ofBits binary32 b) ≡ (8388608 + b % 8388608) * 2 ^ (b / 8388608 - 1)
 units-of-high-pattern b h k = units-of-pattern b h ∙ rw (ne-eqb (b / 8388608) 0 (omega arith))
 
--- and the value is finite and has no sign
+-- ---- below infinity's pattern the value is finite
+
 pub odd-is-fin : (d : ℕ) (s : Bool) (q k l : ℕ) → (m : ℕ) × (e : ℤ) × (odd d s q k l ≡ fin s m e)
 unfolding odd
 odd-is-fin d s zero k l = (0, pos 0, refl)
@@ -184,3 +186,17 @@ pub pattern-is-finite : (b : ℕ) → b < 0x7F800000 → (m : ℕ) × (e : ℤ) 
 pattern-is-finite b h =
     let r = fields-are-fin (b / 8388608) (b % 8388608) (omega arith) in
     (r .0, r .1, no-sign b (omega arith) ∙ r .2)
+
+-- ---- examples: the smallest f32, 1.0, and the largest
+
+smallest : unitsOf (ofBits binary32 0x00000001) ≡ 1
+unfolding unitsOf ofBits
+smallest = refl
+
+one : unitsOf (ofBits binary32 0x3F800000) ≡ 2 ^ 149
+unfolding unitsOf ofBits
+one = refl
+
+largest : unitsOf (ofBits binary32 0x7F7FFFFF) ≡ (2 ^ 24 - 1) * 2 ^ 253
+unfolding unitsOf ofBits
+largest = refl

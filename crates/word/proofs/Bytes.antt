@@ -1,5 +1,5 @@
 -- Bytes and the number that they stand for, for lists of any length: a number below 256 ^ n and its n bytes give each other back, so the number tells the bytes.
--- Assumes nothing.
+-- A function that reads a slice of u8 has `Bytes` of it as `λ i. c .. .shared-slice-known .given i .fits`. Assumes nothing.
 use Prim.Native.Nat.{ℕ, zero, suc, _+_, _*_, _/_, _%_, _^_, _<_}
 use mathlib.Core.Path.{_≡_, refl, sym, ap, ap₂, _∙_}
 use mathlib.Core.List.{List, [], _∷_}
@@ -8,11 +8,9 @@ use native.Mathlib.Omega.{arith}
 use lib.Dec.{lit<}
 use lib.ListN.{length, getD, take, drop, set}
 use lib.Seq.{sets}
-use Rattle.word.specs.Word.{littleEndian, bytesOf}
+use Rattle.word.specs.Word.{Bytes, littleEndian, bytesOf}
 
--- every element is a byte. Past the end `getD` gives 0, so nothing is asked of the index.
-abbrev pub Bytes : List ℕ → Type 0
-Bytes bs = (i : ℕ) → getD bs i 0 < 256
+-- ---- lists of bytes
 
 tail : (b : ℕ) (bs : List ℕ) → Bytes (b ∷ bs) → Bytes bs
 tail b bs h i = h (suc i)

@@ -1,17 +1,17 @@
 -- A word that was written reads back, what stands beside it stays, and a word is its four bytes. Where a law asks that `at + 4` is at most the length, the word lies
 -- within the bytes; the others hold past the end too. Rests on the laws of any number of bytes, in Bytes and Runs. Assumes nothing.
 use Prim.Native.Nat.{ℕ, suc, _+_, _*_, _/_, _%_, _^_, _≤_, _<_}
-use mathlib.Core.Path.{_≡_, sym, ap, _∙_}
+use mathlib.Core.Path.{_≡_, refl, sym, ap, _∙_}
 use mathlib.Core.Logic.{_⊎_, inl, inr}
-use mathlib.Core.List.{List, _++_}
+use mathlib.Core.List.{List, [], _∷_, _++_}
 use native.Mathlib.Nat.{div-div-eq-div-mul, add-zero, add-assoc}
 use native.Mathlib.Numerals.{add-one, add-two, add-three}
 use native.Mathlib.Omega.{arith}
 use lib.Dec.{lit<}
 use lib.ListN.{length, getD, take, drop, set, List·getD-append}
 use lib.Seq.{sets, length-sets, take-at, drop-drop, getD-drop, getD-take, drop-append-add}
-use Rattle.word.specs.Word.{littleEndian, bytesOf, wordAt, putWord}
-use Rattle.word.proofs.Bytes.{Bytes, bytes-take, bytes-drop, bytes-sets, length-bytesOf, bytesOf-are-bytes, littleEndian-bytesOf, bytesOf-littleEndian, littleEndian-tells, littleEndian-take, littleEndian-tells-each}
+use Rattle.word.specs.Word.{Bytes, littleEndian, bytesOf, wordAt, putWord}
+use Rattle.word.proofs.Bytes.{bytes-take, bytes-drop, bytes-sets, length-bytesOf, bytesOf-are-bytes, littleEndian-bytesOf, bytesOf-littleEndian, littleEndian-tells, littleEndian-take, littleEndian-tells-each}
 use Rattle.word.proofs.Runs.{apart-sets, apart-byte, sets-at, sets-same, length-part}
 
 -- ---- the code's form: four bytes, each by its place
@@ -106,3 +106,17 @@ word-behind xs ys at = rw drop-append-add
 pub word-of-bytes : (w : ℕ) (ys : List ℕ) → w < 2 ^ 32 → wordAt (bytesOf 4 w ++ ys) 0 ≡ w
 unfolding wordAt
 word-of-bytes w ys h = ap littleEndian (take-at (bytesOf 4 w) ys 4 (length-bytesOf 4 w)) ∙ littleEndian-bytesOf 4 w h
+
+-- ---- examples
+
+lowest-first : wordAt (0xFF ∷ 0x78 ∷ 0x56 ∷ 0x34 ∷ 0x12 ∷ []) 1 ≡ 0x12345678
+unfolding wordAt
+lowest-first = refl
+
+past-the-end : wordAt (0xFF ∷ 0x78 ∷ []) 1 ≡ 0x78
+unfolding wordAt
+past-the-end = refl
+
+written : putWord (1 ∷ 2 ∷ 3 ∷ 4 ∷ 5 ∷ 6 ∷ []) 1 0x12345678 ≡ 1 ∷ 0x78 ∷ 0x56 ∷ 0x34 ∷ 0x12 ∷ 6 ∷ []
+unfolding putWord
+written = refl
