@@ -80,7 +80,7 @@ crossesOf time = le (neg epsilon) time && le time (add binary32 one epsilon)
 
 -- "else the time clamped to 0..1 (−0.0 stays)"
 unfoldable pub clampOf : Float → Float
-clampOf time = cond (lt time zero) zero (cond (lt one time) one time)
+clampOf x = cond (lt x zero) zero (cond (lt one x) one x)
 
 -- "and segment.0 + time × (segment.1 − segment.0)."
 unfoldable pub lineIntersectSegmentOf : Segment → Segment → Crossing

@@ -207,16 +207,16 @@ fn crosses(time: f32) -> bool
 }
 
 // Rust's clamp to 0..1: -0.0 stays.
-fn clamp(time: f32) -> f32
-    ensures { λ r. ⌜ r ≡ clampOf time ⌝ }
+fn clamp(x: f32) -> f32
+    ensures { λ r. ⌜ r ≡ clampOf x ⌝ }
 {
-    if time < 0.0 {
+    if x < 0.0 {
         return 0.0;
     }
-    if time > 1.0 {
+    if x > 1.0 {
         return 1.0;
     }
-    time
+    x
 }
 
 // Returns the intersection point of the given line and segment, if it exists: none if the time is NaN or outside
@@ -230,7 +230,8 @@ pub fn line_intersect_segment(line: Segment, segment: Segment) -> Crossing
         // bound sitting just past the end makes the interval run backwards. A backwards interval reads as a wide
         // cone instead of an empty one, which lets the search see through walls.
         let along = segment.1.minus(segment.0);
-        return Crossing::At(segment.0.plus(along.times(clamp(time))));
+        let clamped = clamp(time);
+        return Crossing::At(segment.0.plus(along.times(clamped)));
     }
     Crossing::Nowhere
 }

@@ -1,5 +1,7 @@
+-- `helpers::between` meets its contract: each return is its definition's case, by its tests and by what its callees ensure. Assumes nothing.
 use borrow.Author.Needs.{needs}
 use Rattle.helpers.specs.Helpers.{betweenOf}
+use Rattle.helpers.proofs.Cases.{and-left, and-taken}
 use Rattle.helpers.proofs.between.Statement.{statement}
 use Rattle.helpers.proofs.between.Tie as tie
 
@@ -14,15 +16,13 @@ unfolding betweenOf
 returns c =
     let c1 = c .before in
     let c2 = c1 .before in
-    rw (← c2 .min .ensures, c1 .if1 .taken, ← c .max .ensures)
+    and-taken _ _ (simp (c2 .min .ensures) at (c1 .if1 .taken)) (simp (c .max .ensures))
 
 returns-2 : tie.Need-returns-2
 unfolding betweenOf
 returns-2 c =
     let c1 = c .before in
-    rw (← c1 .min .ensures, c .if1 .left)
+    and-left _ _ (simp (c1 .min .ensures) at (c .if1 .left)) (c .if1 .left)
 
 pub between-spec : {M : Type 1} → statement M
-between-spec =
-    tie.close
-    (tie.spec min-requires max-requires returns returns-2)
+between-spec = tie.close (tie.spec min-requires max-requires returns returns-2)

@@ -1,5 +1,8 @@
+-- `helpers::goal_beyond` meets its contract: each return is its definition's case, by its tests and by what its callees ensure. Assumes nothing.
 use borrow.Author.Needs.{needs}
+use mathlib.Core.Path.{refl}
 use Rattle.helpers.specs.Helpers.{goalBeyondOf}
+use Rattle.helpers.proofs.Cases.{left, taken}
 use Rattle.helpers.proofs.goal_beyond.Statement.{statement}
 use Rattle.helpers.proofs.goal_beyond.Tie as tie
 
@@ -22,7 +25,7 @@ returns c =
     let c2 = c1 .before in
     let c3 = c2 .before in
     let c4 = c3 .before in
-    rw (← c4 .side .ensures, ← c3 .side2 .ensures, ← c2 .same-side .ensures, c1 .if1 .taken, ← c .mirror .ensures)
+    taken _ _ (simp (c2 .same-side .ensures, c3 .side2 .ensures, c4 .side .ensures) at (c1 .if1 .taken)) (simp (c .mirror .ensures))
 
 returns-2 : tie.Need-returns-2
 unfolding goalBeyondOf
@@ -30,9 +33,7 @@ returns-2 c =
     let c1 = c .before in
     let c2 = c1 .before in
     let c3 = c2 .before in
-    rw (← c3 .side .ensures, ← c2 .side2 .ensures, ← c1 .same-side .ensures, c .if1 .left)
+    left _ _ (simp (c1 .same-side .ensures, c2 .side2 .ensures, c3 .side .ensures) at (c .if1 .left)) refl
 
 pub goal-beyond-spec : {M : Type 1} → statement M
-goal-beyond-spec =
-    tie.close
-    (tie.spec side-requires side-requires-2 same-side-requires mirror-requires returns returns-2)
+goal-beyond-spec = tie.close (tie.spec side-requires side-requires-2 same-side-requires mirror-requires returns returns-2)

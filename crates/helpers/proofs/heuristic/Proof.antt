@@ -1,5 +1,7 @@
+-- `helpers::heuristic` meets its contract: each return is its definition's case, by its tests and by what its callees ensure. Assumes nothing.
 use borrow.Author.Needs.{needs}
 use Rattle.helpers.specs.Helpers.{heuristicOf}
+use Rattle.helpers.proofs.Cases.{left, taken}
 use Rattle.helpers.proofs.heuristic.Statement.{statement}
 use Rattle.helpers.proofs.heuristic.Tie as tie
 
@@ -18,7 +20,7 @@ returns c =
     let c1 = c .before in
     let c2 = c1 .before in
     let c3 = c2 .before in
-    rw (← c3 .goal-beyond .ensures, ← c2 .ends-at .ensures, c1 .if1 .taken, ← c .distance .ensures)
+    taken _ _ (simp (c2 .ends-at .ensures) at (c1 .if1 .taken)) (simp (c .distance .ensures, c3 .goal-beyond .ensures))
 
 intersection-time-requires : tie.Need-intersection-time-requires
 intersection-time-requires c κs = search needs
@@ -38,7 +40,8 @@ returns-2 c =
     let c4 = c3 .before in
     let c5 = c4 .before in
     let c6 = c5 .before in
-    rw (← c6 .goal-beyond .ensures, ← c5 .ends-at .ensures, c4 .if1 .left, ← c3 .intersection-time .ensures, c2 .if2 .taken, ← c1 .distance2 .ensures, ← c .distance3 .ensures)
+    left _ _ (simp (c5 .ends-at .ensures) at (c4 .if1 .left))
+    (taken _ _ (simp (c3 .intersection-time .ensures, c6 .goal-beyond .ensures) at (c2 .if2 .taken)) (simp (c .distance3 .ensures, c1 .distance2 .ensures, c6 .goal-beyond .ensures)))
 
 distance-requires-4 : tie.Need-distance-requires-4
 distance-requires-4 c κs = search needs
@@ -56,7 +59,9 @@ returns-3 c =
     let c5 = c4 .before in
     let c6 = c5 .before in
     let c7 = c6 .before in
-    rw (← c7 .goal-beyond .ensures, ← c6 .ends-at .ensures, c5 .if1 .left, ← c4 .intersection-time .ensures, c3 .if2 .left, c2 .if3 .taken, ← c1 .distance4 .ensures, ← c .distance5 .ensures)
+    left _ _ (simp (c6 .ends-at .ensures) at (c5 .if1 .left))
+    (left _ _ (simp (c4 .intersection-time .ensures, c7 .goal-beyond .ensures) at (c3 .if2 .left))
+    (taken _ _ (simp (c4 .intersection-time .ensures, c7 .goal-beyond .ensures) at (c2 .if3 .taken)) (simp (c .distance5 .ensures, c1 .distance4 .ensures, c7 .goal-beyond .ensures))))
 
 distance-requires-6 : tie.Need-distance-requires-6
 distance-requires-6 c κs = search needs
@@ -70,9 +75,9 @@ returns-4 c =
     let c4 = c3 .before in
     let c5 = c4 .before in
     let c6 = c5 .before in
-    rw (← c6 .goal-beyond .ensures, ← c5 .ends-at .ensures, c4 .if1 .left, ← c3 .intersection-time .ensures, c2 .if2 .left, c1 .if3 .left, ← c .distance6 .ensures)
+    left _ _ (simp (c5 .ends-at .ensures) at (c4 .if1 .left))
+    (left _ _ (simp (c3 .intersection-time .ensures, c6 .goal-beyond .ensures) at (c2 .if2 .left))
+    (left _ _ (simp (c3 .intersection-time .ensures, c6 .goal-beyond .ensures) at (c1 .if3 .left)) (simp (c .distance6 .ensures, c6 .goal-beyond .ensures))))
 
 pub heuristic-spec : {M : Type 1} → statement M
-heuristic-spec =
-    tie.close
-    (tie.spec goal-beyond-requires ends-at-requires distance-requires returns intersection-time-requires distance-requires-2 distance-requires-3 returns-2 distance-requires-4 distance-requires-5 returns-3 distance-requires-6 returns-4)
+heuristic-spec = tie.close (tie.spec goal-beyond-requires ends-at-requires distance-requires returns intersection-time-requires distance-requires-2 distance-requires-3 returns-2 distance-requires-4 distance-requires-5 returns-3 distance-requires-6 returns-4)

@@ -1,3 +1,4 @@
+-- `helpers::intersection_time` meets its contract: its definition is made of what its callees ensure. Assumes nothing.
 use borrow.Author.Needs.{needs}
 use Rattle.helpers.specs.Helpers.{intersectionTimeOf}
 use Rattle.helpers.proofs.intersection_time.Statement.{statement}
@@ -25,9 +26,7 @@ returns c =
     let c2 = c1 .before in
     let c3 = c2 .before in
     let c4 = c3 .before in
-    rw (← c4 .minus .ensures, ← c3 .minus2 .ensures, ← c2 .perp-dot .ensures, ← c1 .minus3 .ensures, ← c .perp-dot2 .ensures)
+    simp (c .perp-dot2 .ensures, c1 .minus3 .ensures, c2 .perp-dot .ensures, c3 .minus2 .ensures, c4 .minus .ensures)
 
 pub intersection-time-spec : {M : Type 1} → statement M
-intersection-time-spec =
-    tie.close
-    (tie.spec minus-requires minus-requires-2 perp-dot-requires minus-requires-3 perp-dot-requires-2 returns)
+intersection-time-spec = tie.close (tie.spec minus-requires minus-requires-2 perp-dot-requires minus-requires-3 perp-dot-requires-2 returns)

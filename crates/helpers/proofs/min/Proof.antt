@@ -1,16 +1,17 @@
+-- `helpers::min` meets its contract: each return is its definition's case, by its tests. Assumes nothing.
+use mathlib.Core.Path.{refl}
 use Rattle.helpers.specs.Helpers.{minOf}
+use Rattle.helpers.proofs.Cases.{left, taken}
 use Rattle.helpers.proofs.min.Statement.{statement}
 use Rattle.helpers.proofs.min.Tie as tie
 
 returns : tie.Need-returns
 unfolding minOf
-returns c = rw (c .if1 .taken)
+returns c = taken _ _ (c .if1 .taken) refl
 
 returns-2 : tie.Need-returns-2
 unfolding minOf
-returns-2 c = rw (c .if1 .left)
+returns-2 c = left _ _ (c .if1 .left) refl
 
 pub min-spec : {M : Type 1} → statement M
-min-spec =
-    tie.close
-    (tie.spec returns returns-2)
+min-spec = tie.close (tie.spec returns returns-2)

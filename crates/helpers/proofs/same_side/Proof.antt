@@ -1,3 +1,4 @@
+-- `helpers::same_side` meets its contract: each arm is its definition's case. Assumes nothing.
 use borrow.Author.Needs.{needs}
 use Rattle.helpers.specs.Helpers.{sameSideOf}
 use Rattle.helpers.proofs.same_side.Statement.{statement}

@@ -1,5 +1,8 @@
+-- `helpers::turning_point` meets its contract: each return is its definition's case, by its tests and by what its callees ensure. Assumes nothing.
 use borrow.Author.Needs.{needs}
+use mathlib.Core.Path.{refl}
 use Rattle.helpers.specs.Helpers.{turningPointOf}
+use Rattle.helpers.proofs.Cases.{left, taken}
 use Rattle.helpers.proofs.turning_point.Statement.{statement}
 use Rattle.helpers.proofs.turning_point.Tie as tie
 
@@ -13,8 +16,7 @@ returns : tie.Need-returns
 unfolding turningPointOf
 returns c =
     let c1 = c .before in
-    let c4 = c1 .before .before .before in
-    rw (← c4 .goal-beyond .ensures, ← c1 .same .ensures, c .if1 .taken)
+    taken _ _ (simp (c1 .same .ensures) at (c .if1 .taken)) refl
 
 side-requires : tie.Need-side-requires
 side-requires c κs = search needs
@@ -30,7 +32,8 @@ returns-2 c =
     let c3 = c2 .before in
     let c4 = c3 .before in
     let c7 = c4 .before .before .before in
-    rw (← c7 .goal-beyond .ensures, ← c4 .same .ensures, c3 .if1 .left, ← c2 .side .ensures, ← c1 .same-side .ensures, c .if2 .taken)
+    left _ _ (simp (c4 .same .ensures) at (c3 .if1 .left))
+    (taken _ _ (simp (c1 .same-side .ensures, c2 .side .ensures, c7 .goal-beyond .ensures) at (c .if2 .taken)) refl)
 
 side-requires-2 : tie.Need-side-requires-2
 side-requires-2 c κs = search needs
@@ -49,7 +52,9 @@ returns-3 c =
     let c6 = c5 .before in
     let c7 = c6 .before in
     let c10 = c7 .before .before .before in
-    rw (← c10 .goal-beyond .ensures, ← c7 .same .ensures, c6 .if1 .left, ← c5 .side .ensures, ← c4 .same-side .ensures, c3 .if2 .left, ← c2 .side2 .ensures, ← c1 .same-side2 .ensures, c .if3 .taken)
+    left _ _ (simp (c7 .same .ensures) at (c6 .if1 .left))
+    (left _ _ (simp (c4 .same-side .ensures, c5 .side .ensures, c10 .goal-beyond .ensures) at (c3 .if2 .left))
+    (taken _ _ (simp (c1 .same-side2 .ensures, c2 .side2 .ensures, c10 .goal-beyond .ensures) at (c .if3 .taken)) refl))
 
 returns-4 : tie.Need-returns-4
 unfolding turningPointOf
@@ -62,9 +67,9 @@ returns-4 c =
     let c6 = c5 .before in
     let c7 = c6 .before in
     let c10 = c7 .before .before .before in
-    rw (← c10 .goal-beyond .ensures, ← c7 .same .ensures, c6 .if1 .left, ← c5 .side .ensures, ← c4 .same-side .ensures, c3 .if2 .left, ← c2 .side2 .ensures, ← c1 .same-side2 .ensures, c .if3 .left)
+    left _ _ (simp (c7 .same .ensures) at (c6 .if1 .left))
+    (left _ _ (simp (c4 .same-side .ensures, c5 .side .ensures, c10 .goal-beyond .ensures) at (c3 .if2 .left))
+    (left _ _ (simp (c1 .same-side2 .ensures, c2 .side2 .ensures, c10 .goal-beyond .ensures) at (c .if3 .left)) refl))
 
 pub turning-point-spec : {M : Type 1} → statement M
-turning-point-spec =
-    tie.close
-    (tie.spec goal-beyond-requires same-requires returns side-requires same-side-requires returns-2 side-requires-2 same-side-requires-2 returns-3 returns-4)
+turning-point-spec = tie.close (tie.spec goal-beyond-requires same-requires returns side-requires same-side-requires returns-2 side-requires-2 same-side-requires-2 returns-3 returns-4)

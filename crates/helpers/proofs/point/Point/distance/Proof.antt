@@ -1,3 +1,4 @@
+-- `helpers::point::Point::distance` meets its contract: its definition is made of what its callees ensure. Assumes nothing.
 use borrow.Author.Needs.{needs}
 use Rattle.helpers.specs.Point.{distanceOf}
 use Rattle.helpers.proofs.point.Point.distance.Statement.{statement}
@@ -13,9 +14,7 @@ returns : tie.Need-returns
 unfolding distanceOf
 returns c =
     let c1 = c .before in
-    rw (← c1 .minus .ensures, ← c .length .ensures)
+    simp (c .length .ensures, c1 .minus .ensures)
 
 pub distance-spec : {M : Type 1} → statement M
-distance-spec =
-    tie.close
-    (tie.spec minus-requires length-requires returns)
+distance-spec = tie.close (tie.spec minus-requires length-requires returns)

@@ -1,3 +1,4 @@
+-- `helpers::point::Point::distance_squared` meets its contract: its definition is made of what its callees ensure. Assumes nothing.
 use borrow.Author.Needs.{needs}
 use Rattle.helpers.specs.Point.{distanceSquaredOf}
 use Rattle.helpers.proofs.point.Point.distance_squared.Statement.{statement}
@@ -13,9 +14,7 @@ returns : tie.Need-returns
 unfolding distanceSquaredOf
 returns c =
     let c1 = c .before in
-    rw (← c1 .minus .ensures, ← c .dot .ensures)
+    simp (c .dot .ensures, c1 .minus .ensures)
 
 pub distance-squared-spec : {M : Type 1} → statement M
-distance-squared-spec =
-    tie.close
-    (tie.spec minus-requires dot-requires returns)
+distance-squared-spec = tie.close (tie.spec minus-requires dot-requires returns)

@@ -1,3 +1,4 @@
+-- `helpers::point::Point::dot` meets its contract: its code says what its definition says. Assumes nothing.
 use mathlib.Core.Path.{refl}
 use Rattle.helpers.specs.Point.{dotOf}
 use Rattle.helpers.proofs.point.Point.dot.Statement.{statement}
@@ -8,6 +9,4 @@ unfolding dotOf
 returns c = refl
 
 pub dot-spec : {M : Type 1} → statement M
-dot-spec =
-    tie.close
-    (tie.spec returns)
+dot-spec = tie.close (tie.spec returns)

@@ -1,3 +1,4 @@
+-- `helpers::point::Point::from_bits` meets its contract: its definition is made of what its callees ensure. Assumes nothing.
 use borrow.Author.Needs.{needs}
 use Rattle.helpers.specs.Point.{fromBitsOf}
 use Rattle.helpers.proofs.point.Point.from_bits.Statement.{statement}
@@ -17,9 +18,7 @@ unfolding fromBitsOf
 returns c =
     let c1 = c .before in
     let c2 = c1 .before in
-    rw (← c2 .from-bits .ensures, ← c1 .from-bits2 .ensures, ← c .new .ensures)
+    simp (c .new .ensures, c1 .from-bits2 .ensures, c2 .from-bits .ensures)
 
 pub from-bits-spec : {M : Type 1} → statement M
-from-bits-spec =
-    tie.close
-    (tie.spec from-bits-requires from-bits-requires-2 new-requires returns)
+from-bits-spec = tie.close (tie.spec from-bits-requires from-bits-requires-2 new-requires returns)

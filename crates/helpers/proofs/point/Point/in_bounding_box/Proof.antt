@@ -1,5 +1,7 @@
+-- `helpers::point::Point::in_bounding_box` meets its contract: each return is its definition's case, by its tests and by what its callees ensure. Assumes nothing.
 use borrow.Author.Needs.{needs}
 use Rattle.helpers.specs.Helpers.{inBoundingBoxOf}
+use Rattle.helpers.proofs.Cases.{and-left, and-taken}
 use Rattle.helpers.proofs.point.Point.in_bounding_box.Statement.{statement}
 use Rattle.helpers.proofs.point.Point.in_bounding_box.Tie as tie
 
@@ -14,15 +16,13 @@ unfolding inBoundingBoxOf
 returns c =
     let c1 = c .before in
     let c2 = c1 .before in
-    rw (← c2 .between .ensures, c1 .if1 .taken, ← c .between2 .ensures)
+    and-taken _ _ (simp (c2 .between .ensures) at (c1 .if1 .taken)) (simp (c .between2 .ensures))
 
 returns-2 : tie.Need-returns-2
 unfolding inBoundingBoxOf
 returns-2 c =
     let c1 = c .before in
-    rw (← c1 .between .ensures, c .if1 .left)
+    and-left _ _ (simp (c1 .between .ensures) at (c .if1 .left)) (c .if1 .left)
 
 pub in-bounding-box-spec : {M : Type 1} → statement M
-in-bounding-box-spec =
-    tie.close
-    (tie.spec between-requires between-requires-2 returns returns-2)
+in-bounding-box-spec = tie.close (tie.spec between-requires between-requires-2 returns returns-2)

@@ -1,3 +1,4 @@
+-- `helpers::point::Point::length` meets its contract: its definition is made of what its callees ensure. Assumes nothing.
 use borrow.Author.Needs.{needs}
 use Rattle.helpers.specs.Point.{lengthOf}
 use Rattle.helpers.proofs.point.Point.length.Statement.{statement}
@@ -13,9 +14,7 @@ returns : tie.Need-returns
 unfolding lengthOf
 returns c =
     let c1 = c .before in
-    rw (← c1 .dot .ensures, ← c .root .ensures)
+    simp (c .root .ensures, c1 .dot .ensures)
 
 pub length-spec : {M : Type 1} → statement M
-length-spec =
-    tie.close
-    (tie.spec dot-requires root-requires returns)
+length-spec = tie.close (tie.spec dot-requires root-requires returns)

@@ -1,3 +1,4 @@
+-- `helpers::point::Point::minus` meets its contract: its code says what its definition says. Assumes nothing.
 use mathlib.Core.Path.{refl}
 use Rattle.helpers.specs.Point.{minusOf}
 use Rattle.helpers.proofs.point.Point.minus.Statement.{statement}
@@ -8,6 +9,4 @@ unfolding minusOf
 returns c = refl
 
 pub minus-spec : {M : Type 1} → statement M
-minus-spec =
-    tie.close
-    (tie.spec returns)
+minus-spec = tie.close (tie.spec returns)

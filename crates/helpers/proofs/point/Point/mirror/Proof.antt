@@ -1,3 +1,4 @@
+-- `helpers::point::Point::mirror` meets its contract: its definition is made of what its callees ensure. Assumes nothing.
 use borrow.Author.Needs.{needs}
 use Rattle.helpers.specs.Helpers.{mirrorOf}
 use Rattle.helpers.proofs.point.Point.mirror.Statement.{statement}
@@ -29,9 +30,7 @@ returns c =
     let c3 = c2 .before in
     let c4 = c3 .before in
     let c5 = c4 .before in
-    rw (← c5 .minus .ensures, ← c4 .minus2 .ensures, ← c3 .project-onto .ensures, ← c2 .times .ensures, ← c1 .minus3 .ensures, ← c .plus .ensures)
+    simp (c .plus .ensures, c1 .minus3 .ensures, c2 .times .ensures, c3 .project-onto .ensures, c4 .minus2 .ensures, c5 .minus .ensures)
 
 pub mirror-spec : {M : Type 1} → statement M
-mirror-spec =
-    tie.close
-    (tie.spec minus-requires minus-requires-2 project-onto-requires times-requires minus-requires-3 plus-requires returns)
+mirror-spec = tie.close (tie.spec minus-requires minus-requires-2 project-onto-requires times-requires minus-requires-3 plus-requires returns)

@@ -1,3 +1,4 @@
+-- `helpers::point::Point::new` meets its contract: its code says what its definition says. Assumes nothing.
 use mathlib.Core.Path.{refl}
 use Rattle.helpers.specs.Point.{pointOf}
 use Rattle.helpers.proofs.point.Point.new.Statement.{statement}
@@ -8,6 +9,4 @@ unfolding pointOf
 returns c = refl
 
 pub new-spec : {M : Type 1} → statement M
-new-spec =
-    tie.close
-    (tie.spec returns)
+new-spec = tie.close (tie.spec returns)

@@ -1,5 +1,7 @@
+-- `helpers::point::Point::on_segment` meets its contract: each return is its definition's case, by its tests and by what its callees ensure. Assumes nothing.
 use borrow.Author.Needs.{needs}
 use Rattle.helpers.specs.Helpers.{onSegmentOf}
+use Rattle.helpers.proofs.Cases.{and-left, and-taken}
 use Rattle.helpers.proofs.point.Point.on_segment.Statement.{statement}
 use Rattle.helpers.proofs.point.Point.on_segment.Tie as tie
 
@@ -18,15 +20,13 @@ returns c =
     let c1 = c .before in
     let c2 = c1 .before in
     let c3 = c2 .before in
-    rw (← c3 .in-bounding-box .ensures, c2 .if1 .taken, ← c1 .side .ensures, ← c .same-side .ensures)
+    and-taken _ _ (simp (c3 .in-bounding-box .ensures) at (c2 .if1 .taken)) (simp (c .same-side .ensures, c1 .side .ensures))
 
 returns-2 : tie.Need-returns-2
 unfolding onSegmentOf
 returns-2 c =
     let c1 = c .before in
-    rw (← c1 .in-bounding-box .ensures, c .if1 .left)
+    and-left _ _ (simp (c1 .in-bounding-box .ensures) at (c .if1 .left)) (c .if1 .left)
 
 pub on-segment-spec : {M : Type 1} → statement M
-on-segment-spec =
-    tie.close
-    (tie.spec in-bounding-box-requires side-requires same-side-requires returns returns-2)
+on-segment-spec = tie.close (tie.spec in-bounding-box-requires side-requires same-side-requires returns returns-2)

@@ -1,3 +1,4 @@
+-- `helpers::point::Point::perp_dot` meets its contract: its code says what its definition says. Assumes nothing.
 use mathlib.Core.Path.{refl}
 use Rattle.helpers.specs.Point.{perpDotOf}
 use Rattle.helpers.proofs.point.Point.perp_dot.Statement.{statement}
@@ -8,6 +9,4 @@ unfolding perpDotOf
 returns c = refl
 
 pub perp-dot-spec : {M : Type 1} → statement M
-perp-dot-spec =
-    tie.close
-    (tie.spec returns)
+perp-dot-spec = tie.close (tie.spec returns)

@@ -1,3 +1,4 @@
+-- `helpers::point::Point::plus` meets its contract: its code says what its definition says. Assumes nothing.
 use mathlib.Core.Path.{refl}
 use Rattle.helpers.specs.Point.{plusOf}
 use Rattle.helpers.proofs.point.Point.plus.Statement.{statement}
@@ -8,6 +9,4 @@ unfolding plusOf
 returns c = refl
 
 pub plus-spec : {M : Type 1} → statement M
-plus-spec =
-    tie.close
-    (tie.spec returns)
+plus-spec = tie.close (tie.spec returns)

@@ -1,3 +1,4 @@
+-- `helpers::point::Point::project_onto` meets its contract: its definition is made of what its callees ensure. Assumes nothing.
 use borrow.Author.Needs.{needs}
 use Rattle.helpers.specs.Point.{projectOntoOf}
 use Rattle.helpers.proofs.point.Point.project_onto.Statement.{statement}
@@ -21,9 +22,7 @@ returns c =
     let c1 = c .before in
     let c2 = c1 .before in
     let c3 = c2 .before in
-    rw (← c3 .dot .ensures, ← c2 .times .ensures, ← c1 .dot2 .ensures, ← c .times2 .ensures)
+    simp (c .times2 .ensures, c1 .dot2 .ensures, c2 .times .ensures, c3 .dot .ensures)
 
 pub project-onto-spec : {M : Type 1} → statement M
-project-onto-spec =
-    tie.close
-    (tie.spec dot-requires times-requires dot-requires-2 times-requires-2 returns)
+project-onto-spec = tie.close (tie.spec dot-requires times-requires dot-requires-2 times-requires-2 returns)

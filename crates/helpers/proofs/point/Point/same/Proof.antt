@@ -1,4 +1,7 @@
+-- `helpers::point::Point::same` meets its contract: each return is its definition's case, by its tests. Assumes nothing.
+use mathlib.Core.Path.{refl}
 use Rattle.helpers.specs.Point.{sameOf}
+use Rattle.helpers.proofs.Cases.{and-left, and-taken}
 use Rattle.helpers.proofs.point.Point.same.Statement.{statement}
 use Rattle.helpers.proofs.point.Point.same.Tie as tie
 
@@ -6,13 +9,11 @@ returns : tie.Need-returns
 unfolding sameOf
 returns c =
     let c2 = c .before .before in
-    rw (c2 .if1 .taken)
+    and-taken _ _ (c2 .if1 .taken) refl
 
 returns-2 : tie.Need-returns-2
 unfolding sameOf
-returns-2 c = rw (c .if1 .left)
+returns-2 c = and-left _ _ (c .if1 .left) (c .if1 .left)
 
 pub same-spec : {M : Type 1} → statement M
-same-spec =
-    tie.close
-    (tie.spec returns returns-2)
+same-spec = tie.close (tie.spec returns returns-2)

@@ -1,5 +1,8 @@
+-- `helpers::point::Point::side` meets its contract: each return is its definition's case, by its tests and by what its callees ensure. Assumes nothing.
 use borrow.Author.Needs.{needs}
+use mathlib.Core.Path.{refl}
 use Rattle.helpers.specs.Helpers.{sideOf}
+use Rattle.helpers.proofs.Cases.{left, taken}
 use Rattle.helpers.proofs.point.Point.side.Statement.{statement}
 use Rattle.helpers.proofs.point.Point.side.Tie as tie
 
@@ -22,7 +25,7 @@ returns c =
     let c2 = c1 .before in
     let c3 = c2 .before in
     let c4 = c3 .before in
-    rw (← c4 .minus .ensures, ← c3 .minus2 .ensures, ← c2 .perp-dot .ensures, ← c1 .magnitude .ensures, c .if1 .taken)
+    taken _ _ (simp (c1 .magnitude .ensures, c2 .perp-dot .ensures, c3 .minus2 .ensures, c4 .minus .ensures) at (c .if1 .taken)) refl
 
 returns-2 : tie.Need-returns-2
 unfolding sideOf
@@ -32,7 +35,8 @@ returns-2 c =
     let c3 = c2 .before in
     let c4 = c3 .before in
     let c5 = c4 .before in
-    rw (← c5 .minus .ensures, ← c4 .minus2 .ensures, ← c3 .perp-dot .ensures, ← c2 .magnitude .ensures, c1 .if1 .left, c .if2 .taken)
+    left _ _ (simp (c2 .magnitude .ensures, c3 .perp-dot .ensures, c4 .minus2 .ensures, c5 .minus .ensures) at (c1 .if1 .left))
+    (taken _ _ (simp (c3 .perp-dot .ensures, c4 .minus2 .ensures, c5 .minus .ensures) at (c .if2 .taken)) refl)
 
 returns-3 : tie.Need-returns-3
 unfolding sideOf
@@ -42,9 +46,8 @@ returns-3 c =
     let c3 = c2 .before in
     let c4 = c3 .before in
     let c5 = c4 .before in
-    rw (← c5 .minus .ensures, ← c4 .minus2 .ensures, ← c3 .perp-dot .ensures, ← c2 .magnitude .ensures, c1 .if1 .left, c .if2 .left)
+    left _ _ (simp (c2 .magnitude .ensures, c3 .perp-dot .ensures, c4 .minus2 .ensures, c5 .minus .ensures) at (c1 .if1 .left))
+    (left _ _ (simp (c3 .perp-dot .ensures, c4 .minus2 .ensures, c5 .minus .ensures) at (c .if2 .left)) refl)
 
 pub side-spec : {M : Type 1} → statement M
-side-spec =
-    tie.close
-    (tie.spec minus-requires minus-requires-2 perp-dot-requires magnitude-requires returns returns-2 returns-3)
+side-spec = tie.close (tie.spec minus-requires minus-requires-2 perp-dot-requires magnitude-requires returns returns-2 returns-3)

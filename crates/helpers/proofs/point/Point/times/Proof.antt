@@ -1,3 +1,4 @@
+-- `helpers::point::Point::times` meets its contract: its code says what its definition says. Assumes nothing.
 use mathlib.Core.Path.{refl}
 use Rattle.helpers.specs.Point.{timesOf}
 use Rattle.helpers.proofs.point.Point.times.Statement.{statement}
@@ -8,6 +9,4 @@ unfolding timesOf
 returns c = refl
 
 pub times-spec : {M : Type 1} → statement M
-times-spec =
-    tie.close
-    (tie.spec returns)
+times-spec = tie.close (tie.spec returns)

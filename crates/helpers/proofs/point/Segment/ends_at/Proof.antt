@@ -1,5 +1,7 @@
+-- `helpers::point::Segment::ends_at` meets its contract: each return is its definition's case, by its tests and by what its callees ensure. Assumes nothing.
 use borrow.Author.Needs.{needs}
 use Rattle.helpers.specs.Point.{endsAtOf}
+use Rattle.helpers.proofs.Cases.{or-left, or-taken}
 use Rattle.helpers.proofs.point.Segment.ends_at.Statement.{statement}
 use Rattle.helpers.proofs.point.Segment.ends_at.Tie as tie
 
@@ -13,16 +15,14 @@ returns : tie.Need-returns
 unfolding endsAtOf
 returns c =
     let c1 = c .before in
-    rw (← c1 .same .ensures, c .if1 .taken)
+    or-taken _ _ (simp (c1 .same .ensures) at (c .if1 .taken)) (c .if1 .taken)
 
 returns-2 : tie.Need-returns-2
 unfolding endsAtOf
 returns-2 c =
     let c1 = c .before in
     let c2 = c1 .before in
-    rw (← c2 .same .ensures, c1 .if1 .left, ← c .same2 .ensures)
+    or-left _ _ (simp (c2 .same .ensures) at (c1 .if1 .left)) (simp (c .same2 .ensures))
 
 pub ends-at-spec : {M : Type 1} → statement M
-ends-at-spec =
-    tie.close
-    (tie.spec same-requires same-requires-2 returns returns-2)
+ends-at-spec = tie.close (tie.spec same-requires same-requires-2 returns returns-2)
