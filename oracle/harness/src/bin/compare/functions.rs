@@ -7,14 +7,13 @@ use harness::answer::Answer;
 use harness::functions::{Function, Input, FUNCTIONS};
 use harness::inputs::{grid_input, grid_values, Draw, Kind, RANDOM_KINDS};
 
-use crate::ours;
+use crate::{ours, Sum, SHOWN};
 
 const CHUNK: usize = 1 << 16;
 /// With the eight random kinds, 10,485,760 inputs a function.
 const CHUNKS_OF_A_KIND: usize = 20;
 /// Picks from all special values, for the functions whose grid takes only a few of them.
 const SPECIAL_CHUNKS: usize = 16;
-const SHOWN: usize = 3;
 
 /// Inputs that one thread takes at a time.
 enum Chunk {
@@ -38,20 +37,19 @@ struct Counts {
     differences: Vec<Difference>,
 }
 
-/// Prints a line a function and, last, the sums: `COMPARED DIFFER`.
-pub fn compare(threads: usize) {
+/// Prints a line a function.
+pub fn compare(threads: usize) -> Sum {
     println!("{:<24}{:>12}{:>12}{:>12}", "function", "grid", "random", "differ");
-    let (mut compared, mut differ) = (0, 0);
+    let mut sum = Sum::default();
     for (place, function) in FUNCTIONS.iter().enumerate() {
         let counts = compare_function(place, function, threads);
         println!("{:<24}{:>12}{:>12}{:>12}", function.name, counts.grid, counts.random, counts.differ);
         for difference in &counts.differences {
             print_difference(function, difference);
         }
-        compared += counts.grid + counts.random;
-        differ += counts.differ;
+        sum += Sum { compared: counts.grid + counts.random, differ: counts.differ };
     }
-    println!("{compared} {differ}");
+    sum
 }
 
 fn compare_function(place: usize, function: &Function, threads: usize) -> Counts {

@@ -1,18 +1,36 @@
-//! Compares our static library with the original. `oracle/run` calls it:
-//! `compare functions THREADS`, `compare roots PART PARTS` with the hardware's roots on standard input, `compare time`.
+//! Compares our static library with the original: `compare THREADS HARDWARE_ROOTS [EMULATOR]`,
+//! with the path of the program hardware_roots and, where this one is emulated, what emulates it.
+
+use std::process::ExitCode;
 
 mod functions;
 mod ours;
 mod roots;
 mod time;
 
-fn main() {
-    let words: Vec<String> = std::env::args().skip(1).collect();
-    let number = |at: usize| words[at].parse().expect("a number");
-    match words.first().map(String::as_str) {
-        Some("functions") => functions::compare(number(1)),
-        Some("roots") => roots::compare(number(1), number(2)),
-        Some("time") => time::print(),
-        _ => panic!("usage: compare functions THREADS, compare roots PART PARTS or compare time"),
+/// How many inputs were compared, and on how many the answers differ.
+#[derive(Clone, Copy, Default)]
+struct Sum {
+    compared: usize,
+    differ: usize,
+}
+
+impl std::ops::AddAssign for Sum {
+    fn add_assign(&mut self, other: Sum) {
+        self.compared += other.compared;
+        self.differ += other.differ;
     }
+}
+
+/// Differences that are shown of each function.
+const SHOWN: usize = 3;
+
+fn main() -> ExitCode {
+    let words: Vec<String> = std::env::args().skip(1).collect();
+    let threads = words[0].parse().expect("THREADS");
+    let mut sum = functions::compare(threads);
+    sum += roots::compare(threads, &words[1]);
+    time::print(words.get(2));
+    println!("{} compared, {} differ", sum.compared, sum.differ);
+    ExitCode::from((sum.differ != 0) as u8)
 }
