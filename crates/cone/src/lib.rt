@@ -1,5 +1,5 @@
-// The port of clip_to_cone and lands_on of vleue/polyanya's src/instance.rs: what a node sees of an interval behind its own,
-// and whether an interval's end is a vertex.
+// The port of clip_to_cone and lands_on of vleue/polyanya's src/instance.rs: what a node sees of a segment behind its
+// interval, and whether an interval's end is a vertex.
 
 ghost use mathlib.Core.Path.{_≡_};
 ghost use Rattle.cone.specs.Cone.{rayOf, coneOf, hasShortRayOf, fromRightOf, fromLeftOf, bothOutsideOf, fractionOf, raisedOf, loweredOf, cutOf, partInsideOf, partOf, clipOf, clipToConeOf};
@@ -59,22 +59,25 @@ impl Cone {
     }
 
     // A root sitting on one end of its own interval has no wedge: the ray to that end has no direction, and what it can see
-    // is a half plane rather than a slice.
+    // is a half plane rather than a slice. There is nothing to clip against, and dividing by that ray's length only
+    // manufactures noise.
     fn has_short_ray(self) -> bool
         ensures { λ r. ⌜ r ≡ hasShortRayOf self ⌝ }
     {
         self.right.length < Point::SLACK || self.left.length < Point::SLACK
     }
 
-    // How far a point sits inside the right ray, which is left of it, as a distance rather than a signed area, so that one
-    // slack means the same thing whatever the lengths involved.
+    // How far a point sits to the left of the right ray, as a distance rather than a signed area, so that one slack means
+    // the same thing whatever the lengths involved. The slack is generous because this runs at every polygon along a path:
+    // interval ends that miss a corner by a thousandth of a unit wander further on a long way, and a tighter clip would eat
+    // the wedge a little at each step.
     fn from_right(self, point: Point) -> f32
         ensures { λ r. ⌜ r ≡ fromRightOf self point ⌝ }
     {
         self.right.along.perp_dot(point.minus(self.root)) / self.right.length + Point::SLACK
     }
 
-    // How far a point sits inside the left ray, which is right of it.
+    // How far a point sits to the right of the left ray, with the same slack.
     fn from_left(self, point: Point) -> f32
         ensures { λ r. ⌜ r ≡ fromLeftOf self point ⌝ }
     {
@@ -93,7 +96,8 @@ impl Cone {
         }
     }
 
-    // Narrows a segment to the part of it that the cone could actually see.
+    // Narrows a segment to the part of it that lies in the cone. Where a ray is too short there is no cone, and the segment
+    // comes back as it is.
     pub fn clip(self, segment: Segment) -> Clipped
         ensures { λ r. ⌜ r ≡ clipOf self segment ⌝ }
     {
@@ -114,7 +118,7 @@ impl Cone {
 }
 
 impl Part {
-    // What is left of the part, where the segment's start and end sit so far inside a ray.
+    // What a ray leaves of the part, where the segment's start and end sit so far inside it.
     fn cut(self, start: f32, end: f32) -> Cut
         ensures { λ r. ⌜ r ≡ cutOf self start end ⌝ }
     {
@@ -132,13 +136,15 @@ impl Part {
         Cut::Kept(self)
     }
 
-    // The ends are worked out even at 0 and 1: what comes out at 1 need not be segment.1.
+    // The part's own ends. They are worked out even at 0 and 1: what comes out at 1 need not be segment.1.
     fn of(self, segment: Segment) -> Segment
         ensures { λ r. ⌜ r ≡ partOf self segment ⌝ }
     {
-        let along = segment.1.minus(segment.0);
-        let start = segment.0.plus(along.times(self.lo));
-        let end = segment.0.plus(along.times(self.hi));
+        let from = segment.0;
+        let to = segment.1;
+        let along = to.minus(from);
+        let start = from.plus(along.times(self.lo));
+        let end = from.plus(along.times(self.hi));
         Segment(start, end)
     }
 }
@@ -157,7 +163,7 @@ fn fraction(start: f32, end: f32) -> f32
     start / (start - end)
 }
 
-// Rust's lo.max(fraction): a NaN does not move lo, and neither does a zero of the other sign.
+// lo moves up to a fraction above it. A NaN does not move it, and neither does a zero of the other sign.
 fn raised(lo: f32, fraction: f32) -> f32
     ensures { λ r. ⌜ r ≡ raisedOf lo fraction ⌝ }
 {
@@ -167,7 +173,7 @@ fn raised(lo: f32, fraction: f32) -> f32
     lo
 }
 
-// Rust's hi.min(fraction): a NaN does not move hi.
+// hi moves down to a fraction below it. A NaN does not move it.
 fn lowered(hi: f32, fraction: f32) -> f32
     ensures { λ r. ⌜ r ≡ loweredOf hi fraction ⌝ }
 {
@@ -177,15 +183,17 @@ fn lowered(hi: f32, fraction: f32) -> f32
     hi
 }
 
-// Narrows a successor's interval to the part of it that its parent could actually see.
+// Narrows a successor's interval to the part of it that its parent could actually see: a successor that keeps its parent's
+// root sees through the parent's wedge. Whoever has many segments for one cone keeps a Cone.
 pub fn clip_to_cone(root: Point, cone: Segment, segment: Segment) -> Clipped
     ensures { λ r. ⌜ r ≡ clipToConeOf root cone segment ⌝ }
 {
     Cone::new(root, cone).clip(segment)
 }
 
-// Did a computed interval end land on the vertex that it was meant to? The Rust allows more the further the vertex is from
-// the root. That part is not in document 01, and the root is not looked at.
+// Did a computed interval end land on the vertex that it was meant to? On the bundled meshes the ends that should have been
+// corners missed by 1.0 to 1.4 thousandths of a unit. The Rust allows more where the vertex is far from the root: document 01
+// does not, and the root is not looked at.
 pub fn lands_on(computed: Point, vertex: Point, root: Point) -> bool
     ensures { λ r. ⌜ r ≡ landsOnOf computed vertex root ⌝ }
 {
