@@ -1,7 +1,7 @@
 -- What document 01 says of the cone clip, each sentence as a law beside the definition. Assumes nothing.
 use Prim.Native.Nat.{ℕ}
 use native.Mathlib.Omega.{arith}
-use mathlib.Core.Path.{_≡_, refl, sym, ap, _∙_}
+use mathlib.Core.Path.{_≡_, refl, sym, _∙_}
 use mathlib.Core.Bool.{Bool, true, false, cond, or-true}
 use mathlib.Core.Logic.{_⊎_, inl, inr, _↔_}
 use lib.Ieee.{Float, nan, inf, fin, binary32, add, sub, mul, lt}
@@ -67,7 +67,7 @@ pub cut-away : (part : Part) (start end : Float) → cutOf part start end ≡ Aw
 unfolding cutOf
 cut-away part start end = (away-by _ _ _ (bothOutsideOf start end) (lt start zero) (lt end zero), λ e. rw e)
 
--- ---- both rays
+-- ---- both rays: what the laws at the end speak of
 
 -- Why nothing of a segment is seen.
 pub data Unseen (cone : Cone) (segment : Segment) : Type 0 where
@@ -89,7 +89,20 @@ pub record Ends (cone : Cone) (segment seen : Segment) : Type 0 where
   pub end-x : seen .1 .x ≡ along (segment .0 .x) (segment .1 .x) (part .hi)
   pub end-y : seen .1 .y ≡ along (segment .0 .y) (segment .1 .y) (part .hi)
 
--- what the answer is made of, once the rays are long enough
+-- ---- their proofs
+
+not-nothing : {A : Type 0} {s : Segment} → Seen s ≡ Nothing → A
+not-nothing e = let z : _≡_ {A = ℕ} 0 1 = cc in absurd (omega arith)
+
+crossed-by : (b : Bool) (s : Segment) → cond b Nothing (Seen s) ≡ Nothing → b ≡ true
+crossed-by true s e = refl
+crossed-by false s e = not-nothing e
+
+seen-by : (b : Bool) {s seen : Segment} → cond b Nothing (Seen s) ≡ Seen seen → (b ≡ false) × (s ≡ seen)
+seen-by true e = not-nothing (sym e)
+seen-by false e = (refl, cc)
+
+-- the answer, once the rays are long enough
 abbrev seenPart : Segment → Part → Clipped
 seenPart segment part = cond (lt (part .hi) (part .lo)) Nothing (Seen (partOf part segment))
 
@@ -105,16 +118,6 @@ module _ (cone : Cone) (segment : Segment) where
   away-left (Kept part) h = cut-away part _ _ .1 h
   away-left Away h = refl
 
-  not-nothing : {A : Type 0} (s : Segment) → Seen s ≡ Nothing → A
-  not-nothing s e = let z : _≡_ {A = ℕ} 0 1 = cc in absurd (omega arith)
-
-  not-seen : {A : Type 0} {s : Segment} → Nothing ≡ Seen s → A
-  not-seen e = let z : _≡_ {A = ℕ} 0 1 = cc in absurd (omega arith)
-
-  crossed-by : (b : Bool) (s : Segment) → cond b Nothing (Seen s) ≡ Nothing → b ≡ true
-  crossed-by true s e = refl
-  crossed-by false s e = not-nothing s e
-
   unseen : (cut : Cut) → partInsideOf cone segment ≡ cut → ifKept cut (seenPart segment) Nothing ≡ Nothing → Unseen cone segment
   unfolding partInsideOf
   unseen (Kept part) e h = crossed e (crossed-by (lt (part .hi) (part .lo)) _ h)
@@ -126,16 +129,14 @@ module _ (cone : Cone) (segment : Segment) where
   nothing (outside-left h) = rw (away-left _ h)
   nothing (crossed e h) = rw (e, h)
 
-  seen-by : (b : Bool) {s seen : Segment} → cond b Nothing (Seen s) ≡ Seen seen → (b ≡ false) × (s ≡ seen)
-  seen-by true e = not-seen e
-  seen-by false e = (refl, cc)
-
   ends : (seen : Segment) (cut : Cut) → partInsideOf cone segment ≡ cut → ifKept cut (seenPart segment) Nothing ≡ Seen seen → Ends cone segment seen
   unfolding partOf plusOf timesOf minusOf
   ends seen (Kept part) e h =
       let told = seen-by (lt (part .hi) (part .lo)) h in
       rw (← told .1) record { part = part; inside = e; in-order = told .0; start-x = refl; start-y = refl; end-x = refl; end-y = refl }
-  ends seen Away e h = not-seen h
+  ends seen Away e h = not-nothing (sym h)
+
+-- ---- what is seen where neither ray is shorter than 0.01
 
 module _ (root : Point) (cone segment : Segment) (right : lt (rightLength root cone) slack ≡ false) (left : lt (leftLength root cone) slack ≡ false) where
   past-the-rays : clipToConeOf root cone segment ≡ ifKept (partInsideOf (coneOf root cone) segment) (seenPart segment) Nothing

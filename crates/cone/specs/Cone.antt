@@ -1,4 +1,4 @@
--- The clip to a cone, as document 01 has it under "Geometry" and polyanya's src/instance.rs in `clip_to_cone`, in its order. Rests on the definitions of `helpers`. Assumes nothing.
+-- The clip to a cone, as document 01 has it under "Geometry", in the order of polyanya's `clip_to_cone` (src/instance.rs). Rests on the definitions of `helpers`. Assumes nothing.
 -- Each definition is what the contract of the function of that name says, with `Of` behind it.
 use mathlib.Core.Bool.{Bool, cond, _&&_, _||_}
 use lib.Ieee.{Float, binary32, add, sub, div, neg, lt}
@@ -37,7 +37,7 @@ fromRightOf cone p = add binary32 (div binary32 (perpDotOf (cone .right .along) 
 unfoldable pub fromLeftOf : Cone → Point → Float
 fromLeftOf cone p = add binary32 (div binary32 (neg (perpDotOf (cone .left .along) (minusOf p (cone .root)))) (cone .left .length)) slack
 
--- ---- what a ray leaves
+-- ---- what a ray leaves, where the segment's start and end sit so far inside it
 
 -- at_start / (at_start - at_end)
 unfoldable pub fractionOf : Float → Float → Float
