@@ -1,5 +1,5 @@
 -- The clip to a cone, as document 01 has it under "Geometry", in the order of polyanya's `clip_to_cone` (src/instance.rs). Rests on the definitions of `helpers`. Assumes nothing.
--- Each definition is what the contract of the function of that name says, with `Of` behind it.
+-- Each definition is what the contract of the function of that name says, with `Of` behind it. A comment in quotes is 01's sentence.
 use mathlib.Core.Bool.{Bool, cond, _&&_, _||_}
 use lib.Ieee.{Float, binary32, add, sub, div, neg, lt}
 use Rattle.helpers.specs.declared.point.Point.{Point}
@@ -15,12 +15,13 @@ use Rattle.cone.specs.declared.Clipped.the-variants.{Seen, Nothing}
 
 -- ---- the cone
 
--- right = cone.0 - root, left = cone.1 - root, and their lengths
+-- cone.0 - root, or cone.1 - root, and its length
 unfoldable pub rayOf : Point → Point → Ray
 rayOf root end =
     let along = minusOf end root in
     record { along = along; length = lengthOf along }
 
+-- the rays to the interval's right end and to its left end
 unfoldable pub coneOf : Point → Segment → Cone
 coneOf root interval = record { root = root; right = rayOf root (interval .0); left = rayOf root (interval .1) }
 
@@ -43,10 +44,11 @@ fromLeftOf cone p = add binary32 (div binary32 (neg (perpDotOf (cone .left .alon
 unfoldable pub fractionOf : Float → Float → Float
 fractionOf start end = div binary32 start (sub binary32 start end)
 
--- "a NaN fraction moves neither lo nor hi;"
+-- lo.max(fraction): "a NaN fraction moves neither lo nor hi;"
 unfoldable pub raisedOf : Float → Float → Float
 raisedOf lo fraction = cond (lt lo fraction) fraction lo
 
+-- hi.min(fraction)
 unfoldable pub loweredOf : Float → Float → Float
 loweredOf hi fraction = cond (lt fraction hi) fraction hi
 
@@ -54,6 +56,7 @@ loweredOf hi fraction = cond (lt fraction hi) fraction hi
 unfoldable pub bothOutsideOf : Float → Float → Bool
 bothOutsideOf start end = lt start zero && lt end zero
 
+-- else lo moves to where a segment that starts outside comes in, or hi to where one that ends outside goes out
 unfoldable pub cutOf : Part → Float → Float → Cut
 cutOf part start end =
     let fraction = fractionOf start end in
@@ -90,5 +93,6 @@ clipOf cone segment =
     (λ part. cond (lt (part .hi) (part .lo)) Nothing (Seen (partOf part segment)))
     Nothing)
 
+-- the same, with the cone made for this one segment
 unfoldable pub clipToConeOf : Point → Segment → Segment → Clipped
 clipToConeOf root cone segment = clipOf (coneOf root cone) segment
