@@ -1,0 +1,4 @@
+-- What belongs to no one function: the arms that a match leads to, and the parts that a cut makes.
+pub mod Arms
+pub mod Cuts
+pub mod Wrap
