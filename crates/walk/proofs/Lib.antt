@@ -2,3 +2,5 @@
 pub mod Arms
 pub mod Cuts
 pub mod Wrap
+pub mod Laws
+pub mod Turns

@@ -62,7 +62,7 @@ walkOf root interval corners kind (i ∷ is) =
 unfoldable pub successorsOf : Point → Segment → List Point → ℕ → List Successor
 successorsOf root interval corners entry = walkOf root interval corners RightNonObservable (others (length corners) entry)
 
--- ---- in turns
+-- ---- the walk in turns
 
 unfoldable pub beginOf : ℕ → ℕ → Round
 beginOf entry count = record { entry = entry; count = count; taken = 0; kind = RightNonObservable }
@@ -75,3 +75,28 @@ edgeNumberOf round = afterEntry (round .count) (round .entry) (round .taken)
 
 unfoldable pub nextOf : Round → SuccessorType → Round
 nextOf round kind = record { entry = round .entry; count = round .count; taken = round .taken + 1; kind = kind }
+
+-- a turn: the edge that is walked, what it yields, and the round after it
+unfoldable pub turnOf : Point → Segment → List Point → Round → Walk
+turnOf root interval corners round = walkEdgeOf root interval (edgeOf corners (edgeNumberOf round)) (round .kind)
+
+unfoldable pub yieldsOf : Point → Segment → List Point → Round → List Successor
+yieldsOf root interval corners round = successorsOn (edgeNumberOf round) ((turnOf root interval corners round) .parts)
+
+unfoldable pub turnedOf : Point → Segment → List Point → Round → Round
+turnedOf root interval corners round = nextOf round ((turnOf root interval corners round) .kind)
+
+-- after k turns: the round, and what was yielded
+unfoldable pub roundAfter : Point → Segment → List Point → ℕ → ℕ → Round
+roundAfter root interval corners entry zero = beginOf entry (length corners)
+roundAfter root interval corners entry (suc k) = turnedOf root interval corners (roundAfter root interval corners entry k)
+
+unfoldable pub yieldedAfter : Point → Segment → List Point → ℕ → ℕ → List Successor
+yieldedAfter root interval corners entry zero = []
+yieldedAfter root interval corners entry (suc k) =
+    yieldedAfter root interval corners entry k ++ yieldsOf root interval corners (roundAfter root interval corners entry k)
+
+-- what a round has still to yield
+unfoldable pub leftOf : Point → Segment → List Point → Round → List Successor
+leftOf root interval corners round =
+    walkOf root interval corners (round .kind) (edgesFrom (round .count) (round .entry) (round .taken) (round .count - 1 - round .taken))

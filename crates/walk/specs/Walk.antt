@@ -5,8 +5,8 @@
 use Prim.Native.Nat.{ℕ}
 use mathlib.Core.Bool.{Bool, cond, _&&_}
 use mathlib.Core.List.{List, [], _∷_, _++_}
-use lib.Ieee.{lt}
-use lib.ListN.{length, take}
+use lib.Ieee.{nan, lt}
+use lib.ListN.{getD, take}
 use Rattle.helpers.specs.declared.point.Point.{Point}
 use Rattle.helpers.specs.declared.point.Segment.{Segment}
 use Rattle.helpers.specs.declared.EdgeSide.{EdgeSide}
@@ -157,3 +157,10 @@ walkedOf walk = held (walk .parts) (walk .kind)
 -- the parts that it holds
 abbrev pub partsOf : Walked → List Part
 partsOf walked = take (walked .count) (walked .parts)
+
+-- the i-th of a list of parts, and behind its end what reading such a place of an array is said to give
+abbrev pub noPart : Part
+noPart = record { interval = (record { x = nan; y = nan }, record { x = nan; y = nan }); kind = LeftNonObservable }
+
+abbrev pub partAt : List Part → ℕ → Part
+partAt parts i = getD parts i noPart
