@@ -4,3 +4,4 @@ pub mod Cuts
 pub mod Wrap
 pub mod Laws
 pub mod Turns
+pub mod Examples
