@@ -52,9 +52,9 @@ line a b c d = (fromBitsOf a b, fromBitsOf c d)
 -- (4,4)-(-4,4): the rays cut it at (2,4) and (-2,4)
 pub three-parts : walkEdgeOf (fromBitsOf 0' 0') (line 1' 2' -1' 2') (line 4' 4' -4' 4') RightNonObservable ≡ record {
   parts = partOf (fromBitsOf 4' 4') (fromBitsOf 2' 4') RightNonObservable
-    ∷ partOf (fromBitsOf 2' 4') (fromBitsOf -2' 4') Observable
-    ∷ partOf (fromBitsOf -2' 4') (fromBitsOf -4' 4') LeftNonObservable
-    ∷ [];
+      ∷ partOf (fromBitsOf 2' 4') (fromBitsOf -2' 4') Observable
+      ∷ partOf (fromBitsOf -2' 4') (fromBitsOf -4' 4') LeftNonObservable
+      ∷ [];
   kind = LeftNonObservable;
 }
 unfolding walkEdgeOf restOf firstCutOf secondCutOf firstCrossingOf toldApartOf apartFromBothOf cutIfOf seenIfOf uncutOf seenFromRightOf unlessRightOf partOf sideOf lineIntersectSegmentOf intersectionTimeOf magnitudeOf crossesOf clampOf pointOf fromBitsOf minusOf plusOf timesOf dotOf perpDotOf distanceSquaredOf add sub mul div neg lt le ofBits odd size round
@@ -73,10 +73,10 @@ passed-over = refl
 -- 01, Easy to get wrong: "Assuming the walk's kinds run right, seen, left: they may return to seen." From (0,4) through (0,2)-(1,3) into the polygon
 -- (1,3) (0,2) (3,1) (0,5) by its edge 0.
 pub back-to-seen : successorsOf (fromBitsOf 0' 4') (line 0' 2' 1' 3') (fromBitsOf 1' 3' ∷ fromBitsOf 0' 2' ∷ fromBitsOf 3' 1' ∷ fromBitsOf 0' 5' ∷ []) 0 ≡
-  record { edge = 1; part = partOf (fromBitsOf 0' 2') (fromBitsOf 3' 1') Observable }
-  ∷ record { edge = 2; part = partOf (fromBitsOf 3' 1') (fromBitsOf 3' 1') LeftNonObservable }
-  ∷ record { edge = 2; part = partOf (fromBitsOf 3' 1') (fromBitsOf 0' 5') LeftNonObservable }
-  ∷ record { edge = 3; part = partOf (fromBitsOf 0' 5') (fromBitsOf 1' 3') Observable }
-  ∷ []
+    record { edge = 1; part = partOf (fromBitsOf 0' 2') (fromBitsOf 3' 1') Observable }
+    ∷ record { edge = 2; part = partOf (fromBitsOf 3' 1') (fromBitsOf 3' 1') LeftNonObservable }
+    ∷ record { edge = 2; part = partOf (fromBitsOf 3' 1') (fromBitsOf 0' 5') LeftNonObservable }
+    ∷ record { edge = 3; part = partOf (fromBitsOf 0' 5') (fromBitsOf 1' 3') Observable }
+    ∷ []
 unfolding successorsOf others edgesFrom afterEntry wrapped edgeOf cornerOf walkOf walkEdgeOf restOf firstCutOf secondCutOf firstCrossingOf toldApartOf apartFromBothOf cutIfOf seenIfOf uncutOf seenFromRightOf unlessRightOf partOf sideOf lineIntersectSegmentOf intersectionTimeOf magnitudeOf crossesOf clampOf pointOf fromBitsOf minusOf plusOf timesOf dotOf perpDotOf distanceSquaredOf add sub mul div neg lt le ofBits odd size round
 back-to-seen = refl
