@@ -55,20 +55,17 @@ install_x86() {
     emulator=qemu-x86_64
 }
 
-# glam's own text where Debian's mirror has it, else the stand-in. The package is source alone, the same for
-# every processor; it is of a later Debian than 12, so it is unpacked here and not installed.
+# glam's own text where this Debian has a package of it (Debian 12 has none), else the stand-in.
 lay_glam() {
-    local package=librust-glam-dev_0.30.1-3_arm64.deb
-    local sum=b85bc22a857614195062551e2dcfbc7f2ef09360e45cba8777673b5f06673fb3
-    local address=$package
-    # apt's helper leaves a file only where the sum is right.
-    if [ -f "$out/$package" ] || /usr/lib/apt/apt-helper download-file "$address" "$out/$package" "SHA256:$sum" >"$out/glam.log" 2>&1; then
-        dpkg-deb -x "$out/$package" "$out/glam"
-        cp -r "$out/glam/usr/share/cargo/registry/glam-0.30.1" "$crates/glam"
-        glam='glam 0.30.1'
+    if apt-cache show librust-glam-dev >/dev/null 2>&1; then install_missing librust-glam-dev; fi
+    local found
+    found=$(ls -d /usr/share/cargo/registry/glam-[0-9]* 2>/dev/null | tail -n 1 || true)
+    if [ -n "$found" ]; then
+        cp -r "$found" "$crates/glam"
+        glam=$(basename "$found")
     else
         cp -r "$here/glam" "$crates/glam"
-        glam="our stand-in for glam only, whose own text could not be had"
+        glam="our stand-in for glam only, whose own text is not at hand"
     fi
 }
 
