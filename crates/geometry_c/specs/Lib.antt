@@ -1,3 +1,4 @@
 -- What the contracts of `geometry_c` cite beside those of `helpers`.
 pub mod Export
 pub mod Clip
+pub mod Walk

@@ -14,6 +14,7 @@ use helpers::Segment;
 use helpers::Turn;
 
 mod clip;
+mod walk_edge;
 
 // The segment between two points, each coordinate a bit pattern.
 fn segment(ax: u32, ay: u32, bx: u32, by: u32) -> Segment
