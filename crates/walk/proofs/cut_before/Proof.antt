@@ -1,3 +1,4 @@
+-- `walk::cut_before` meets its contract: each return is its definition's case, by its arm and by what its callees ensure. Assumes nothing.
 use borrow.Author.Needs.{needs}
 use Rattle.walk.proofs.Cuts.{both-at, first-only}
 use Rattle.walk.proofs.cut_before.Statement.{statement}
@@ -43,6 +44,4 @@ returns-2 c =
     first-only _ _ _ _ (c4 .second-cut .ensures) _ (c2 .enum-told .given .1) (simp (c .two .ensures, c1 .new3 .ensures))
 
 pub cut-before-spec : {M : Type 1} → statement M
-cut-before-spec =
-    tie.close
-    (tie.spec second-cut-requires enum-known-at new-requires new-requires-2 three-requires enum-told new-requires-3 two-requires returns returns-2)
+cut-before-spec = tie.close (tie.spec second-cut-requires enum-known-at new-requires new-requires-2 three-requires enum-told new-requires-3 two-requires returns returns-2)

@@ -1,3 +1,4 @@
+-- `walk::uncut` meets its contract: each return is its definition's case, by its arm and by what its callees ensure. Assumes nothing.
 use borrow.Author.Needs.{needs}
 use Rattle.walk.proofs.Cuts.{second-at, second-none}
 use Rattle.walk.proofs.uncut.Statement.{statement}
@@ -43,6 +44,4 @@ returns-2 c =
     second-none _ _ _ _ (c4 .second-cut .ensures) (c2 .enum-told .given .1) (simp (c .one .ensures, c1 .new3 .ensures))
 
 pub uncut-spec : {M : Type 1} → statement M
-uncut-spec =
-    tie.close
-    (tie.spec second-cut-requires enum-known-at new-requires new-requires-2 two-requires enum-told new-requires-3 one-requires returns returns-2)
+uncut-spec = tie.close (tie.spec second-cut-requires enum-known-at new-requires new-requires-2 two-requires enum-told new-requires-3 one-requires returns returns-2)

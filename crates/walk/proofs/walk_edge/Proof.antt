@@ -1,3 +1,4 @@
+-- `walk::walk_edge` meets its contract: each return is its definition's case, by its arm and by what its callees ensure. Assumes nothing.
 use borrow.Author.Needs.{needs}
 use Rattle.walk.proofs.Cuts.{first-at, first-none}
 use Rattle.walk.proofs.walk_edge.Statement.{statement}
@@ -35,6 +36,4 @@ returns-2 c =
     first-none _ _ _ _ (c3 .first-cut .ensures) (c1 .enum-told .given .1) (c .uncut .ensures)
 
 pub walk-edge-spec : {M : Type 1} → statement M
-walk-edge-spec =
-    tie.close
-    (tie.spec first-cut-requires enum-known-at new-requires cut-before-requires enum-told uncut-requires returns returns-2)
+walk-edge-spec = tie.close (tie.spec first-cut-requires enum-known-at new-requires cut-before-requires enum-told uncut-requires returns returns-2)

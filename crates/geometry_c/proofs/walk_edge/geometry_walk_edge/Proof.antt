@@ -1,3 +1,4 @@
+-- `geometry_c::walk_edge::geometry_walk_edge` meets its contract: the number of parts and what is written are those of the asked kind's case, by what its callees ensure. Assumes nothing.
 use mathlib.Core.Path.{refl}
 use native.Mathlib.Omega.{arith}
 use borrow.Author.Needs.{needs}
@@ -59,6 +60,4 @@ returns-2 c =
     rw (← c2 .kind-asked .ensures, c .enum-told .given .1) (refl, refl)
 
 pub geometry-walk-edge-spec : {M : Type 1} → statement M
-geometry-walk-edge-spec =
-    tie.close
-    (tie.spec kind-asked-requires enum-known-asked from-bits-requires segment-requires segment-requires-2 walk-edge-requires put-parts-requires kind-number-requires element-write-out cast-result enum-told returns returns-2)
+geometry-walk-edge-spec = tie.close (tie.spec kind-asked-requires enum-known-asked from-bits-requires segment-requires segment-requires-2 walk-edge-requires put-parts-requires kind-number-requires element-write-out cast-result enum-told returns returns-2)

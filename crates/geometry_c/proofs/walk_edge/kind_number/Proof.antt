@@ -1,3 +1,4 @@
+-- `geometry_c::walk_edge::kind_number` meets its contract: each arm is its definition's case. Assumes nothing.
 use borrow.Author.Needs.{needs}
 use Rattle.geometry_c.specs.Walk.{kindNumber}
 use Rattle.geometry_c.proofs.walk_edge.kind_number.Statement.{statement}
@@ -25,6 +26,4 @@ unfolding kindNumber
 returns-3 c = rw (c .enum-told3 .given .1)
 
 pub kind-number-spec : {M : Type 1} → statement M
-kind-number-spec =
-    tie.close
-    (tie.spec enum-told enum-told-2 enum-told-3 returns returns-2 returns-3)
+kind-number-spec = tie.close (tie.spec enum-told enum-told-2 enum-told-3 returns returns-2 returns-3)

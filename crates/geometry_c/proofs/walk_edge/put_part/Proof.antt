@@ -1,3 +1,4 @@
+-- `geometry_c::walk_edge::put_part` meets its contract: five stores, each of what its callee ensures. Assumes nothing.
 use borrow.Author.Needs.{needs}
 use native.Mathlib.Numerals.{add-one, add-two, add-three, add-four}
 use Rattle.geometry_c.specs.Walk.{partWords}
@@ -74,6 +75,4 @@ returns c =
     simp (add-one, add-two, add-three, add-four, c4 .to-bits .ensures, c3 .to-bits2 .ensures, c2 .to-bits3 .ensures, c1 .to-bits4 .ensures, c .kind-number .ensures)
 
 pub put-part-spec : {M : Type 1} → statement M
-put-part-spec =
-    tie.close
-    (tie.spec mul-at to-bits-requires mul-out element-write-out to-bits-requires-2 add-out mul-out-2 element-write-out-2 to-bits-requires-3 add-out-2 mul-out-3 element-write-out-3 to-bits-requires-4 add-out-3 mul-out-4 element-write-out-4 kind-number-requires add-out-4 mul-out-5 element-write-out-5 returns)
+put-part-spec = tie.close (tie.spec mul-at to-bits-requires mul-out element-write-out to-bits-requires-2 add-out mul-out-2 element-write-out-2 to-bits-requires-3 add-out-2 mul-out-3 element-write-out-3 to-bits-requires-4 add-out-3 mul-out-4 element-write-out-4 kind-number-requires add-out-4 mul-out-5 element-write-out-5 returns)

@@ -1,3 +1,4 @@
+-- `walk::Part::new` meets its contract: its code says what its definition says. Assumes nothing.
 use mathlib.Core.Path.{refl}
 use Rattle.walk.specs.Walk.{partOf}
 use Rattle.walk.proofs.Part.new.Statement.{statement}
@@ -8,6 +9,4 @@ unfolding partOf
 returns c = refl
 
 pub new-spec : {M : Type 1} → statement M
-new-spec =
-    tie.close
-    (tie.spec returns)
+new-spec = tie.close (tie.spec returns)

@@ -1,3 +1,4 @@
+-- `walk::Walked::one` meets its contract: its code says what its definition says. Assumes nothing.
 use mathlib.Core.Path.{refl}
 use Rattle.walk.specs.Walk.{oneOf}
 use Rattle.walk.proofs.Walked.one.Statement.{statement}
@@ -8,6 +9,4 @@ unfolding oneOf
 returns c = refl
 
 pub one-spec : {M : Type 1} → statement M
-one-spec =
-    tie.close
-    (tie.spec returns)
+one-spec = tie.close (tie.spec returns)

@@ -1,3 +1,4 @@
+-- `walk::Walked::three` meets its contract: its code says what its definition says. Assumes nothing.
 use mathlib.Core.Path.{refl}
 use Rattle.walk.specs.Walk.{threeOf}
 use Rattle.walk.proofs.Walked.three.Statement.{statement}
@@ -8,6 +9,4 @@ unfolding threeOf
 returns c = refl
 
 pub three-spec : {M : Type 1} → statement M
-three-spec =
-    tie.close
-    (tie.spec returns)
+three-spec = tie.close (tie.spec returns)

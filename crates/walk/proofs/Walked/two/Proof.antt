@@ -1,3 +1,4 @@
+-- `walk::Walked::two` meets its contract: its code says what its definition says. Assumes nothing.
 use mathlib.Core.Path.{refl}
 use Rattle.walk.specs.Walk.{twoOf}
 use Rattle.walk.proofs.Walked.two.Statement.{statement}
@@ -8,6 +9,4 @@ unfolding twoOf
 returns c = refl
 
 pub two-spec : {M : Type 1} → statement M
-two-spec =
-    tie.close
-    (tie.spec returns)
+two-spec = tie.close (tie.spec returns)

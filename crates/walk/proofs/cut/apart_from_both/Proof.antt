@@ -1,4 +1,6 @@
+-- `walk::cut::apart_from_both` meets its contract: each return is its definition's case, by its tests and by what its callees ensure. Assumes nothing.
 use borrow.Author.Needs.{needs}
+use Rattle.helpers.proofs.Cases.{and-left, and-taken}
 use Rattle.walk.specs.Walk.{apartFromBothOf}
 use Rattle.walk.proofs.cut.apart_from_both.Statement.{statement}
 use Rattle.walk.proofs.cut.apart_from_both.Tie as tie
@@ -14,15 +16,13 @@ unfolding apartFromBothOf
 returns c =
     let c1 = c .before in
     let c2 = c1 .before in
-    rw (← c2 .told-apart .ensures, c1 .if1 .taken, ← c .told-apart2 .ensures)
+    and-taken _ _ (simp (c2 .told-apart .ensures) at (c1 .if1 .taken)) (simp (c .told-apart2 .ensures))
 
 returns-2 : tie.Need-returns-2
 unfolding apartFromBothOf
 returns-2 c =
     let c1 = c .before in
-    rw (← c1 .told-apart .ensures, c .if1 .left)
+    and-left _ _ (simp (c1 .told-apart .ensures) at (c .if1 .left)) (c .if1 .left)
 
 pub apart-from-both-spec : {M : Type 1} → statement M
-apart-from-both-spec =
-    tie.close
-    (tie.spec told-apart-requires told-apart-requires-2 returns returns-2)
+apart-from-both-spec = tie.close (tie.spec told-apart-requires told-apart-requires-2 returns returns-2)

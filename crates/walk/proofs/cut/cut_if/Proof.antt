@@ -1,16 +1,17 @@
+-- `walk::cut::cut_if` meets its contract: each return is its definition's case, by its tests. Assumes nothing.
+use mathlib.Core.Path.{refl}
+use Rattle.helpers.proofs.Cases.{left, taken}
 use Rattle.walk.specs.Walk.{cutIfOf}
 use Rattle.walk.proofs.cut.cut_if.Statement.{statement}
 use Rattle.walk.proofs.cut.cut_if.Tie as tie
 
 returns : tie.Need-returns
 unfolding cutIfOf
-returns c = rw (c .if1 .taken)
+returns c = taken _ _ (c .if1 .taken) refl
 
 returns-2 : tie.Need-returns-2
 unfolding cutIfOf
-returns-2 c = rw (c .if1 .left)
+returns-2 c = left _ _ (c .if1 .left) refl
 
 pub cut-if-spec : {M : Type 1} → statement M
-cut-if-spec =
-    tie.close
-    (tie.spec returns returns-2)
+cut-if-spec = tie.close (tie.spec returns returns-2)

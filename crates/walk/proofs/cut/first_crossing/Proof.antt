@@ -1,3 +1,4 @@
+-- `walk::cut::first_crossing` meets its contract: its definition is made of what its callees ensure. Assumes nothing.
 use borrow.Author.Needs.{needs}
 use Rattle.walk.specs.Walk.{firstCrossingOf}
 use Rattle.walk.proofs.cut.first_crossing.Statement.{statement}
@@ -21,9 +22,7 @@ returns c =
     let c1 = c .before in
     let c2 = c1 .before in
     let c3 = c2 .before in
-    rw (← c3 .apart-from-both .ensures, ← c2 .cut-if .ensures, ← c1 .told-apart .ensures, ← c .seen-if .ensures)
+    simp (c .seen-if .ensures, c1 .told-apart .ensures, c2 .cut-if .ensures, c3 .apart-from-both .ensures)
 
 pub first-crossing-spec : {M : Type 1} → statement M
-first-crossing-spec =
-    tie.close
-    (tie.spec apart-from-both-requires cut-if-requires told-apart-requires seen-if-requires returns)
+first-crossing-spec = tie.close (tie.spec apart-from-both-requires cut-if-requires told-apart-requires seen-if-requires returns)

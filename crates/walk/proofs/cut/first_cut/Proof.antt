@@ -1,3 +1,4 @@
+-- `walk::cut::first_cut` meets its contract: each return is its definition's case, by its arm and by what its callees ensure. Assumes nothing.
 use borrow.Author.Needs.{needs}
 use Rattle.walk.proofs.Arms.{found, on-left, on-right, on-edge, at-point, at-none}
 use Rattle.walk.specs.Walk.{firstCutOf}
@@ -84,6 +85,4 @@ returns-4 c =
     on-edge _ _ _ _ (found (c5 .side .ensures) (c3 .enum-told4 .given .1)) (simp (c .nowhere3 .ensures, c1 .unless-right .ensures, c2 .side2 .ensures))
 
 pub first-cut-spec : {M : Type 1} → statement M
-first-cut-spec =
-    tie.close
-    (tie.spec side-requires enum-told line-intersect-segment-requires enum-known-crossing first-crossing-requires enum-told-2 nowhere-requires enum-told-3 seen-from-right-requires nowhere-requires-2 enum-told-4 side-requires-2 unless-right-requires nowhere-requires-3 returns returns-2 returns-3 returns-4)
+first-cut-spec = tie.close (tie.spec side-requires enum-told line-intersect-segment-requires enum-known-crossing first-crossing-requires enum-told-2 nowhere-requires enum-told-3 seen-from-right-requires nowhere-requires-2 enum-told-4 side-requires-2 unless-right-requires nowhere-requires-3 returns returns-2 returns-3 returns-4)

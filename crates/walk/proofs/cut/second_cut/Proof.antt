@@ -1,3 +1,4 @@
+-- `walk::cut::second_cut` meets its contract: each return is its definition's case, by its arm and by what its callees ensure. Assumes nothing.
 use borrow.Author.Needs.{needs}
 use Rattle.walk.proofs.Arms.{found, on-left, on-right, on-edge, at-point, at-none}
 use Rattle.walk.specs.Walk.{secondCutOf}
@@ -84,6 +85,4 @@ returns-4 c =
     on-right _ _ _ _ (found (c3 .side .ensures) (c1 .enum-told4 .given .1)) (c .nowhere3 .ensures)
 
 pub second-cut-spec : {M : Type 1} → statement M
-second-cut-spec =
-    tie.close
-    (tie.spec side-requires enum-told line-intersect-segment-requires enum-known-crossing told-apart-requires cut-if-requires enum-told-2 nowhere-requires enum-told-3 side-requires-2 unless-right-requires nowhere-requires-2 enum-told-4 nowhere-requires-3 returns returns-2 returns-3 returns-4)
+second-cut-spec = tie.close (tie.spec side-requires enum-told line-intersect-segment-requires enum-known-crossing told-apart-requires cut-if-requires enum-told-2 nowhere-requires enum-told-3 side-requires-2 unless-right-requires nowhere-requires-2 enum-told-4 nowhere-requires-3 returns returns-2 returns-3 returns-4)

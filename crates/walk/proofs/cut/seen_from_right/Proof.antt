@@ -1,3 +1,4 @@
+-- `walk::cut::seen_from_right` meets its contract: each arm is its definition's case. Assumes nothing.
 use borrow.Author.Needs.{needs}
 use Rattle.walk.specs.Walk.{seenFromRightOf}
 use Rattle.walk.proofs.cut.seen_from_right.Statement.{statement}
@@ -25,6 +26,4 @@ unfolding seenFromRightOf
 returns-3 c = rw (c .enum-told3 .given .1)
 
 pub seen-from-right-spec : {M : Type 1} → statement M
-seen-from-right-spec =
-    tie.close
-    (tie.spec enum-told enum-told-2 enum-told-3 returns returns-2 returns-3)
+seen-from-right-spec = tie.close (tie.spec enum-told enum-told-2 enum-told-3 returns returns-2 returns-3)

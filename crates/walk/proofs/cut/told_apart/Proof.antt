@@ -1,3 +1,4 @@
+-- `walk::cut::told_apart` meets its contract: its definition is made of what its callees ensure. Assumes nothing.
 use borrow.Author.Needs.{needs}
 use Rattle.walk.specs.Walk.{toldApartOf}
 use Rattle.walk.proofs.cut.told_apart.Statement.{statement}
@@ -8,9 +9,7 @@ distance-squared-requires c κs = search needs
 
 returns : tie.Need-returns
 unfolding toldApartOf
-returns c = rw (← c .distance-squared .ensures)
+returns c = simp (c .distance-squared .ensures)
 
 pub told-apart-spec : {M : Type 1} → statement M
-told-apart-spec =
-    tie.close
-    (tie.spec distance-squared-requires returns)
+told-apart-spec = tie.close (tie.spec distance-squared-requires returns)

@@ -1,3 +1,4 @@
+-- `walk::cut::unless_right` meets its contract: each arm is its definition's case. Assumes nothing.
 use borrow.Author.Needs.{needs}
 use Rattle.walk.specs.Walk.{unlessRightOf}
 use Rattle.walk.proofs.cut.unless_right.Statement.{statement}
@@ -25,6 +26,4 @@ unfolding unlessRightOf
 returns-3 c = rw (c .enum-told3 .given .1)
 
 pub unless-right-spec : {M : Type 1} → statement M
-unless-right-spec =
-    tie.close
-    (tie.spec enum-told enum-told-2 enum-told-3 returns returns-2 returns-3)
+unless-right-spec = tie.close (tie.spec enum-told enum-told-2 enum-told-3 returns returns-2 returns-3)

@@ -1,3 +1,4 @@
+-- `walk::cut::Cut::nowhere` meets its contract: its code says what its definition says. Assumes nothing.
 use mathlib.Core.Path.{refl}
 use Rattle.walk.specs.Walk.{uncutOf}
 use Rattle.walk.proofs.cut.Cut.nowhere.Statement.{statement}
@@ -8,6 +9,4 @@ unfolding uncutOf
 returns c = refl
 
 pub nowhere-spec : {M : Type 1} → statement M
-nowhere-spec =
-    tie.close
-    (tie.spec returns)
+nowhere-spec = tie.close (tie.spec returns)

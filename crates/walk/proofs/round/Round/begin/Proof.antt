@@ -1,3 +1,4 @@
+-- `walk::round::Round::begin` meets its contract: its code says what its definition says. Assumes nothing.
 use mathlib.Core.Path.{refl}
 use Rattle.walk.specs.Round.{beginOf}
 use Rattle.walk.proofs.round.Round.begin.Statement.{statement}
@@ -8,6 +9,4 @@ unfolding beginOf
 returns c = refl
 
 pub begin-spec : {M : Type 1} → statement M
-begin-spec =
-    tie.close
-    (tie.spec returns)
+begin-spec = tie.close (tie.spec returns)

@@ -1,3 +1,4 @@
+-- `walk::round::Round::edge` meets its contract: an edge number is taken as it is up to the last edge, and from the first on behind it. Assumes nothing.
 use borrow.Author.Needs.{needs}
 use Rattle.walk.proofs.Wrap.{up-to-the-last, from-the-first}
 use Rattle.walk.specs.Round.{edgeNumberOf}
@@ -25,6 +26,4 @@ unfolding edgeNumberOf
 returns-2 c = from-the-first _ _ _ (c .before .before .before .before .pre .0) (c .before .if1 .left)
 
 pub edge-spec : {M : Type 1} → statement M
-edge-spec =
-    tie.close
-    (tie.spec sub-left sub-left-2 add-result add-result-2 returns returns-2)
+edge-spec = tie.close (tie.spec sub-left sub-left-2 add-result add-result-2 returns returns-2)

@@ -1,3 +1,4 @@
+-- `walk::round::Round::is_over` meets its contract: its code says what its definition says. Assumes nothing.
 use borrow.Author.Needs.{needs}
 use mathlib.Core.Path.{refl}
 use Rattle.walk.specs.Round.{isOverOf}
@@ -12,6 +13,4 @@ unfolding isOverOf
 returns c = refl
 
 pub is-over-spec : {M : Type 1} → statement M
-is-over-spec =
-    tie.close
-    (tie.spec add-result returns)
+is-over-spec = tie.close (tie.spec add-result returns)

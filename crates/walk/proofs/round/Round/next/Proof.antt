@@ -1,3 +1,4 @@
+-- `walk::round::Round::next` meets its contract: its code says what its definition says. Assumes nothing.
 use borrow.Author.Needs.{needs}
 use mathlib.Core.Path.{refl}
 use Rattle.walk.specs.Round.{nextOf}
@@ -12,6 +13,4 @@ unfolding nextOf
 returns c = refl
 
 pub next-spec : {M : Type 1} → statement M
-next-spec =
-    tie.close
-    (tie.spec add-t3 returns)
+next-spec = tie.close (tie.spec add-t3 returns)
