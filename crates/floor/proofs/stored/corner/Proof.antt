@@ -1,33 +1,30 @@
+-- `floor::stored::corner` meets its contract: the slot is inside the list. Assumes nothing.
+use Rattle.floor.proofs.Records.{corner-inside, corner-read}
+use lib.ListN.{length}
+use denote.Ref.{now}
+use mathlib.Core.Path.{sym, _∙_}
+use native.Mathlib.Omega.{arith}
 use borrow.Author.Needs.{needs}
 use Rattle.floor.proofs.stored.corner.Statement.{statement}
 use Rattle.floor.proofs.stored.corner.Tie as tie
-use Rattle.floor.proofs.stored.corner.Reads as reads
-use Rattle.floor.proofs.stored.corner.Lts as lts
-use Rattle.word.proofs.read.Reads as read-reads
 
--- src/stored.rt:43:31
 mul-read : tie.Need-mul-read
 mul-read c = search needs
 
--- src/stored.rt:43:26
 mul-read-2 : tie.Need-mul-read-2
-mul-read-2 c = ?
+mul-read-2 c = omega (arith, corner-inside (length (now (c .before .args .polygons))) (c .before .args .slots) (c .before .args .p) (c .before .args .i) (c .before .pre .2) (c .before .pre .1))
 
--- src/stored.rt:43:44
 mul-read-3 : tie.Need-mul-read-3
 mul-read-3 c = search needs
 
--- src/stored.rt:43:26
 add-read : tie.Need-add-read
-add-read c = ?
+add-read c = omega (arith, corner-inside (length (now (c .before .args .polygons))) (c .before .args .slots) (c .before .args .p) (c .before .args .i) (c .before .pre .2) (c .before .pre .1))
 
--- src/stored.rt:43:5
 read-requires : tie.Need-read-requires
-read-requires c κs = ?
+read-requires c κs = corner-inside (length (now (c .before .args .polygons))) (c .before .args .slots) (c .before .args .p) (c .before .args .i) (c .before .pre .2) (c .before .pre .1)
 
--- src/stored.rt:39:1
 returns : tie.Need-returns
-returns c = ?
+returns c = c .read .ensures ∙ sym (corner-read _ _ _ _ (c .before .before .pre .1))
 
 pub corner-spec : {M : Type 1} → statement M
 corner-spec = tie.close (tie.spec mul-read mul-read-2 mul-read-3 add-read read-requires returns)

@@ -1,41 +1,37 @@
+-- `floor::stored::corner_after` meets its contract: a slot behind the last counts as unused. Assumes nothing.
+use borrow.Author.Tests.{eq-eqb, ne-eqb}
+use Rattle.floor.specs.Stored.{cornerAfter}
+use Rattle.floor.proofs.Records.{corner-beyond}
 use borrow.Author.Needs.{needs}
 use Rattle.floor.proofs.stored.corner_after.Statement.{statement}
 use Rattle.floor.proofs.stored.corner_after.Tie as tie
-use Rattle.floor.proofs.stored.corner_after.Reads as reads
-use Rattle.floor.proofs.stored.corner_after.Lts as lts
-use Rattle.floor.proofs.stored.corner.Reads as corner-reads
 
--- src/stored.rt:74:17
 add-if1 : tie.Need-add-if1
 add-if1 c = search needs
 
--- src/stored.rt:75:9
 corner-requires : tie.Need-corner-requires
 corner-requires c κs = search needs
 
--- src/stored.rt:75:9
 returns : tie.Need-returns
-returns c = ?
+unfolding cornerAfter
+returns c = rw (corner-beyond _ _ _ _ (c .before .if1 .taken)) (c .corner .ensures)
 
--- src/stored.rt:77:43
 add-corner : tie.Need-add-corner
 add-corner c = search needs
 
--- src/stored.rt:77:9
 corner-requires-2 : tie.Need-corner-requires-2
 corner-requires-2 c κs = search needs
 
--- src/stored.rt:79:9
 corner-requires-3 : tie.Need-corner-requires-3
 corner-requires-3 c κs = search needs
 
--- src/stored.rt:79:9
 returns-2 : tie.Need-returns-2
-returns-2 c = ?
+unfolding cornerAfter
+returns-2 c = rw (← c .before .before .corner2 .ensures, eq-eqb _ _ (c .before .if2 .taken)) (c .corner3 .ensures)
 
--- src/stored.rt:70:1
 returns-3 : tie.Need-returns-3
-returns-3 c = ?
+unfolding cornerAfter
+returns-3 c = rw (← c .before .corner2 .ensures, ne-eqb _ _ (c .if2 .left))
 
 pub corner-after-spec : {M : Type 1} → statement M
 corner-after-spec =

@@ -1,41 +1,36 @@
+-- `floor::stored::neighbour` meets its contract: the slot is inside the list. Assumes nothing.
+use Rattle.floor.proofs.Records.{neighbour-inside, neighbour-read}
+use lib.ListN.{length}
+use denote.Ref.{now}
+use mathlib.Core.Path.{sym, _∙_}
+use native.Mathlib.Omega.{arith}
 use borrow.Author.Needs.{needs}
 use Rattle.floor.proofs.stored.neighbour.Statement.{statement}
 use Rattle.floor.proofs.stored.neighbour.Tie as tie
-use Rattle.floor.proofs.stored.neighbour.Reads as reads
-use Rattle.floor.proofs.stored.neighbour.Lts as lts
-use Rattle.word.proofs.read.Reads as read-reads
 
--- src/stored.rt:51:31
 mul-read : tie.Need-mul-read
 mul-read c = search needs
 
--- src/stored.rt:51:26
 mul-read-2 : tie.Need-mul-read-2
-mul-read-2 c = ?
+mul-read-2 c = omega (arith, neighbour-inside (length (now (c .before .args .polygons))) (c .before .args .slots) (c .before .args .p) (c .before .args .i) (c .before .pre .2) (c .before .pre .1))
 
--- src/stored.rt:51:44
 mul-read-3 : tie.Need-mul-read-3
 mul-read-3 c = search needs
 
--- src/stored.rt:51:26
 add-read : tie.Need-add-read
-add-read c = ?
+add-read c = omega (arith, neighbour-inside (length (now (c .before .args .polygons))) (c .before .args .slots) (c .before .args .p) (c .before .args .i) (c .before .pre .2) (c .before .pre .1))
 
--- src/stored.rt:51:56
 mul-read-4 : tie.Need-mul-read-4
 mul-read-4 c = search needs
 
--- src/stored.rt:51:26
 add-read-2 : tie.Need-add-read-2
-add-read-2 c = ?
+add-read-2 c = omega (arith, neighbour-inside (length (now (c .before .args .polygons))) (c .before .args .slots) (c .before .args .p) (c .before .args .i) (c .before .pre .2) (c .before .pre .1))
 
--- src/stored.rt:51:5
 read-requires : tie.Need-read-requires
-read-requires c κs = ?
+read-requires c κs = neighbour-inside (length (now (c .before .args .polygons))) (c .before .args .slots) (c .before .args .p) (c .before .args .i) (c .before .pre .2) (c .before .pre .1)
 
--- src/stored.rt:47:1
 returns : tie.Need-returns
-returns c = ?
+returns c = c .read .ensures ∙ sym (neighbour-read _ _ _ _ (c .before .before .pre .1))
 
 pub neighbour-spec : {M : Type 1} → statement M
 neighbour-spec =

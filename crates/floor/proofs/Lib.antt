@@ -1,0 +1,2 @@
+-- The laws of the stored floor that belong to no one function.
+pub mod Records
