@@ -2,14 +2,13 @@
 -- operands shows nowhere. Assumes nothing.
 use Prim.Native.Nat.{ℕ, zero, suc, _+_, _*_, _<_}
 use mathlib.Core.Path.{_≡_, refl, _∙_}
-use mathlib.Core.Bool.{Bool, true, false, not, cond, _&&_, _||_, Bool·beq}
+use mathlib.Core.Bool.{Bool, true, false}
 use native.Mathlib.Nat.{mul-comm, mul-pos, zero-lt-suc, zero-mul, zero-add}
 use native.Mathlib.Omega.{arith}
 use borrow.Author.Tests.{lt-ltb, le-ltb}
-use lib.Dec.{ltb, eqb}
 use lib.Pow.{pow-pos}
 use lib.IntN.{ℤ, pos, negsuc}
-use lib.Ieee.{Float, Format, nan, inf, fin, binary32, ofBits, mul, neg, lt, le, eq, up, down, unlike, below, round}
+use lib.Ieee.{Float, Format, nan, inf, fin, binary32, ofBits, mul, neg, lt, le, eq, up, down, unlike}
 use Rattle.helpers.specs.declared.point.Point.{Point}
 use Rattle.helpers.specs.declared.point.Segment.{Segment}
 use Rattle.helpers.specs.declared.EdgeSide.the-variants.{Right}
@@ -73,6 +72,7 @@ negative-below m e =
     let h : 0 < suc m * up e = mul-pos (zero-lt-suc m) (up-positive e) in
     lt-ltb 0 (suc m * up e * down (pos 0) + 0 * up (pos 0) * down e) (omega arith)
 
+-- what is below a bound by the code's magnitude is so by Rust's, and the other way round
 pub magnitude-below : (x y : Float) → lt (magnitudeOf x) y ≡ lt (abs x) y
 unfolding magnitudeOf abs neg lt ofBits
 magnitude-below nan y = refl
@@ -90,6 +90,7 @@ unlike-comm false true = refl
 unlike-comm true false = refl
 unlike-comm true true = refl
 
+-- a product does not know which operand stood first
 pub mul-turned : (f : Format) (x y : Float) → mul f x y ≡ mul f y x
 unfolding mul
 mul-turned f nan nan = refl

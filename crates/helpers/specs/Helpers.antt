@@ -1,5 +1,5 @@
--- The functions of polyanya's src/helpers.rs, in its order, as document 01 has them under "Geometry". Rests on specs/Point. Assumes nothing.
--- Each definition is what the contract of the function of that name says, with `Of` behind it.
+-- The functions of polyanya's src/helpers.rs as document 01 has them under "Geometry", each name before its use. Rests on specs/Point. Assumes nothing.
+-- Each definition is what the contract of the function of that name says, with `Of` behind it. A comment in quotes is 01's sentence, any other the Rust's own line or words.
 use mathlib.Core.Bool.{Bool, true, false, cond, _&&_}
 use lib.Ieee.{Float, binary32, add, sub, div, neg, lt, le}
 use Rattle.helpers.specs.declared.point.Point.{Point}
@@ -14,7 +14,7 @@ use Rattle.helpers.specs.Point.{zero, one, two, epsilon, boxEpsilon, min
 
 -- ---- side
 
--- The magnitude, as far as a comparison can tell: -0.0 stays, and no comparison knows it from 0.0.
+-- x.abs(), as far as a comparison can tell: -0.0 stays, and no comparison knows it from 0.0 (proofs/Laws, magnitude-below)
 unfoldable pub magnitudeOf : Float → Float
 magnitudeOf x = cond (lt x zero) (neg x) x
 
@@ -24,7 +24,7 @@ sideOf p line =
     let area = perpDotOf (minusOf (line .1) (line .0)) (minusOf p (line .0)) in
     cond (lt (magnitudeOf area) epsilon) Edge (cond (lt zero area) Left Right)
 
--- Rust's == on sides
+-- == on sides
 unfoldable pub sameSideOf : EdgeSide → EdgeSide → Bool
 sameSideOf Left Left = true
 sameSideOf Left Right = false
@@ -90,11 +90,12 @@ lineIntersectSegmentOf line segment =
 
 -- ---- heuristic and turning point
 
--- "If the goal is on the same side of the interval with the root, then we mirror it."
+-- If the goal is on the same side of the interval with the root, then we mirror it.
 unfoldable pub goalBeyondOf : Point → Point → Segment → Point
 goalBeyondOf root goal interval = cond (sameSideOf (sideOf root interval) (sideOf goal interval)) (mirrorOf goal interval) goal
 
--- The way to the goal, straight where the line of sight passes the interval, else by the end that it misses
+-- If the point is not in the estimated "line of sight", then the heuristic will be an approximated taut path length, otherwise it will be the exact distance
+-- between the root and the goal. (A time below 0 misses the interval at its first end, one above 1 at its second; NaN misses neither.)
 unfoldable pub heuristicOf : Point → Point → Segment → Float
 heuristicOf root goal interval =
     let seen = goalBeyondOf root goal interval in
@@ -104,6 +105,7 @@ heuristicOf root goal interval =
     (cond (lt one time) (add binary32 (distanceOf root (interval .1)) (distanceOf (interval .1) seen))
     (distanceOf root seen)))
 
+-- The point at which the path between the given root and goal should turn, if any
 unfoldable pub turningPointOf : Point → Point → Segment → Turn
 turningPointOf root goal interval =
     let seen = goalBeyondOf root goal interval in

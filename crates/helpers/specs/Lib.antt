@@ -1,2 +1,3 @@
+-- What the contracts of `helpers` cite.
 pub mod Point
 pub mod Helpers

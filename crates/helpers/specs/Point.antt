@@ -45,6 +45,7 @@ landing = ofBits binary32 0x3B03126F
 unfoldable pub pointOf : Float → Float → Point
 pointOf x y = record { x = x; y = y }
 
+-- the point whose coordinates have these bit patterns
 unfoldable pub fromBitsOf : ℕ → ℕ → Point
 fromBitsOf x y = pointOf (ofBits binary32 x) (ofBits binary32 y)
 
@@ -54,13 +55,15 @@ minusOf p q = record { x = sub binary32 (p .x) (q .x); y = sub binary32 (p .y) (
 unfoldable pub plusOf : Point → Point → Point
 plusOf p q = record { x = add binary32 (p .x) (q .x); y = add binary32 (p .y) (q .y) }
 
+-- v * by, and by * v: which operand stands first shows nowhere (proofs/Laws, times-turned)
 unfoldable pub timesOf : Point → Float → Point
 timesOf p by = record { x = mul binary32 (p .x) by; y = mul binary32 (p .y) by }
 
--- Rust's ==
+-- ==: 0.0 and -0.0 are the same, and a NaN is the same as nothing
 unfoldable pub sameOf : Point → Point → Bool
 sameOf p q = eq (p .x) (q .x) && eq (p .y) (q .y)
 
+-- whether a point is one of a segment's two ends, by ==
 unfoldable pub endsAtOf : Segment → Point → Bool
 endsAtOf s p = sameOf p (s .0) || sameOf p (s .1)
 
@@ -78,9 +81,11 @@ perpDotOf p q = sub binary32 (mul binary32 (p .x) (q .y)) (mul binary32 (p .y) (
 unfoldable pub lengthOf : Point → Float
 lengthOf p = rootOf (dotOf p p)
 
+-- the length of the difference
 unfoldable pub distanceOf : Point → Point → Float
 distanceOf p q = lengthOf (minusOf p q)
 
+-- the difference's dot with itself
 unfoldable pub distanceSquaredOf : Point → Point → Float
 distanceSquaredOf p q = dotOf (minusOf p q) (minusOf p q)
 

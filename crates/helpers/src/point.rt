@@ -59,6 +59,7 @@ impl Point {
         }
     }
 
+    // Rust's v * by, and by * v: which operand stands first shows nowhere.
     pub fn times(self, by: f32) -> Point
         ensures { λ r. ⌜ r ≡ timesOf self by ⌝ }
     {

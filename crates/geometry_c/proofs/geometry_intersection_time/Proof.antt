@@ -1,3 +1,4 @@
+-- `geometry_c::geometry_intersection_time` meets its contract: its definition is made of what its callees ensure. Assumes nothing.
 use borrow.Author.Needs.{needs}
 use Rattle.geometry_c.proofs.geometry_intersection_time.Statement.{statement}
 use Rattle.geometry_c.proofs.geometry_intersection_time.Tie as tie
@@ -19,9 +20,7 @@ returns c =
     let c1 = c .before in
     let c2 = c1 .before in
     let c3 = c2 .before in
-    rw (← c3 .segment .ensures, ← c2 .segment2 .ensures, ← c1 .intersection-time .ensures, ← c .to-bits .ensures)
+    simp (c .to-bits .ensures, c1 .intersection-time .ensures, c2 .segment2 .ensures, c3 .segment .ensures)
 
 pub geometry-intersection-time-spec : {M : Type 1} → statement M
-geometry-intersection-time-spec =
-    tie.close
-    (tie.spec segment-requires segment-requires-2 intersection-time-requires to-bits-requires returns)
+geometry-intersection-time-spec = tie.close (tie.spec segment-requires segment-requires-2 intersection-time-requires to-bits-requires returns)

@@ -1,3 +1,4 @@
+-- `geometry_c::geometry_project_onto` meets its contract: its definition is made of what its callees ensure. Assumes nothing.
 use borrow.Author.Needs.{needs}
 use Rattle.geometry_c.proofs.geometry_project_onto.Statement.{statement}
 use Rattle.geometry_c.proofs.geometry_project_onto.Tie as tie
@@ -19,9 +20,7 @@ returns c =
     let c2 = c .before .before in
     let c3 = c2 .before in
     let c4 = c3 .before in
-    rw (← c4 .from-bits .ensures, ← c3 .from-bits2 .ensures, ← c2 .project-onto .ensures, ← c .put .ensures)
+    simp (c .put .ensures, c2 .project-onto .ensures, c3 .from-bits2 .ensures, c4 .from-bits .ensures)
 
 pub geometry-project-onto-spec : {M : Type 1} → statement M
-geometry-project-onto-spec =
-    tie.close
-    (tie.spec from-bits-requires from-bits-requires-2 project-onto-requires put-requires returns)
+geometry-project-onto-spec = tie.close (tie.spec from-bits-requires from-bits-requires-2 project-onto-requires put-requires returns)

@@ -1,3 +1,4 @@
+-- `geometry_c::geometry_turning_point` meets its contract: the turn's number and what is written are those of the arm's case, by what its callees ensure. Assumes nothing.
 use mathlib.Core.Path.{refl}
 use borrow.Author.Needs.{needs}
 use Rattle.geometry_c.specs.Export.{turnNumber, turnWritten}

@@ -1,3 +1,4 @@
+-- `geometry_c::put` meets its contract: its definition is made of what its callees ensure. Assumes nothing.
 use borrow.Author.Needs.{needs}
 use Rattle.geometry_c.specs.Export.{pointBits}
 use Rattle.geometry_c.proofs.put.Statement.{statement}
@@ -14,9 +15,7 @@ unfolding pointBits
 returns c =
     let c1 = c .before in
     let c2 = c1 .before in
-    rw (← c2 .to-bits .ensures, ← c1 .to-bits2 .ensures)
+    simp (c1 .to-bits2 .ensures, c2 .to-bits .ensures)
 
 pub put-spec : {M : Type 1} → statement M
-put-spec =
-    tie.close
-    (tie.spec to-bits-requires to-bits-requires-2 returns)
+put-spec = tie.close (tie.spec to-bits-requires to-bits-requires-2 returns)

@@ -1,3 +1,4 @@
+-- `geometry_c::segment` meets its contract: its definition is made of what its callees ensure. Assumes nothing.
 use borrow.Author.Needs.{needs}
 use Rattle.geometry_c.specs.Export.{segmentOf}
 use Rattle.geometry_c.proofs.segment.Statement.{statement}
@@ -13,9 +14,7 @@ returns : tie.Need-returns
 unfolding segmentOf
 returns c =
     let c1 = c .before in
-    rw (← c1 .from-bits .ensures, ← c .from-bits2 .ensures)
+    simp (c .from-bits2 .ensures, c1 .from-bits .ensures)
 
 pub segment-spec : {M : Type 1} → statement M
-segment-spec =
-    tie.close
-    (tie.spec from-bits-requires from-bits-requires-2 returns)
+segment-spec = tie.close (tie.spec from-bits-requires from-bits-requires-2 returns)

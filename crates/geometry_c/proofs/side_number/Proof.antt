@@ -1,3 +1,4 @@
+-- `geometry_c::side_number` meets its contract: each arm is its definition's case. Assumes nothing.
 use borrow.Author.Needs.{needs}
 use Rattle.geometry_c.specs.Export.{sideNumber}
 use Rattle.geometry_c.proofs.side_number.Statement.{statement}
