@@ -3,12 +3,13 @@ use Prim.Native.Nat.{ℕ, _+_, _*_, _/_, _≤_, _<_}
 use native.Mathlib.Nat.{le-trans, mul-le-mul-right, div-mul-le-self}
 use native.Mathlib.Omega.{arith}
 use mathlib.Core.Path.{_≡_, refl, sym, _∙_, subst}
-use mathlib.Core.List.{List}
-use lib.ListN.{length, List·getD-eq-default}
+use mathlib.Core.List.{List, []}
+use lib.Dec.{eqb}
+use lib.ListN.{length, getD, List·getD-eq-default}
 use Rattle.counts.specs.Counts.{table}
-use Rattle.counts.proofs.Laws.{length-table, getD-table}
+use Rattle.counts.proofs.Laws.{length-table, getD-table, first-le}
 use Rattle.word.specs.Word.{wordAt}
-use Rattle.floor.specs.Stored.{unused, polygonAt, corner, neighbour, vertexAt}
+use Rattle.floor.specs.Stored.{unused, origin, vertexAt, polygonAt, floorOf, corner, neighbour, cornerCount, polygon}
 
 -- record p is inside: as many bytes as its size stand from p times the size on
 whole : (L d p : ℕ) → p < L / d → (p + 1) * d ≤ L
@@ -45,3 +46,27 @@ module _ (s : ℕ) (bytes : List ℕ) (p : ℕ) where
   pub neighbour-slots : length (polygonAt s bytes p .neighbours) ≡ s
   unfolding polygonAt
   neighbour-slots = length-table s (λ k. wordAt bytes (p * (s * 8) + s * 4 + k * 4))
+
+  -- a polygon has no more corners than slots
+  pub count-slots : cornerCount (polygonAt s bytes p) ≤ s
+  unfolding cornerCount
+  count-slots = subst (λ (v : ℕ). cornerCount (polygonAt s bytes p) ≤ v) corner-slots (first-le (length (polygonAt s bytes p .corners)) (λ i. eqb (corner (polygonAt s bytes p) i) unused))
+
+-- ---- the floor that the lists stand for
+
+module _ (s : ℕ) (vs ps : List ℕ) where
+  pub polygon-count : length (floorOf s vs ps .polygons) ≡ length ps / (s * 8)
+  unfolding floorOf
+  polygon-count = length-table (length ps / (s * 8)) (polygonAt s ps)
+
+  pub vertex-count : length (floorOf s vs ps .vertices) ≡ length vs / 8
+  unfolding floorOf
+  vertex-count = length-table (length vs / 8) (vertexAt vs)
+
+  pub polygon-is : (p : ℕ) → p < length ps / (s * 8) → polygon (floorOf s vs ps) p ≡ polygonAt s ps p
+  unfolding floorOf polygon
+  polygon-is p h = getD-table (length ps / (s * 8)) (polygonAt s ps) p (record { corners = []; neighbours = [] }) h
+
+  pub vertex-is : (v : ℕ) → v < length vs / 8 → getD (floorOf s vs ps .vertices) v origin ≡ vertexAt vs v
+  unfolding floorOf
+  vertex-is v h = getD-table (length vs / 8) (vertexAt vs) v origin h

@@ -22,7 +22,7 @@ unfoldable pub badVertex : Floor → ℕ
 badVertex f = first (length (f .vertices)) (λ v. not (pointRight (getD (f .vertices) v origin)))
 
 unfoldable pub badCorners : Floor → ℕ
-badCorners f = first (length (f .polygons)) (λ p. not (cornersRight f (polygon f p)))
+badCorners f = first (length (f .polygons)) (λ p. not (cornersRight (length (f .vertices)) (polygon f p)))
 
 unfoldable pub badLinks : Floor → ℕ
 badLinks f = first (length (f .polygons)) (λ p. not (linksRight f p))

@@ -4,12 +4,12 @@ use Prim.Native.Nat.{ℕ, _+_, _-_, _*_, _/_, _%_}
 use mathlib.Core.Bool.{Bool, not, _&&_, _||_}
 use mathlib.Core.List.{List}
 use lib.Dec.{leb, ltb, eqb}
-use lib.ListN.{length, getD}
+use lib.ListN.{length}
 use lib.Ieee.{Float, neg, le}
 use Rattle.counts.specs.Counts.{every, some}
 use Rattle.helpers.specs.declared.point.Point.{Point}
 use Rattle.helpers.specs.Point.{limit}
-use Rattle.floor.specs.Stored.{Floor, Polygon, Question, unused, origin, corner, neighbour, cornerCount, cornerAfter, polygon, isListed}
+use Rattle.floor.specs.Stored.{Floor, Polygon, Question, unused, corner, neighbour, cornerCount, cornerAfter, polygon, isListed}
 
 -- ---- 2 and 3: the lists' lengths
 
@@ -29,26 +29,34 @@ pointRight p = coordinateRight (p .x) && coordinateRight (p .y)
 -- ---- 5: a polygon's corners
 
 -- "Unused slots .. stand after the used ones": every slot behind the corners is one.
-unfoldable pub restUnused : List ℕ → ℕ → Bool
-restUnused slots n = every (length slots - n) (λ k. eqb (getD slots (n + k) unused) unused)
+unfoldable pub restUnused : (ℕ → ℕ) → ℕ → ℕ → Bool
+restUnused slot slots n = every (slots - n) (λ k. eqb (slot (n + k)) unused)
 
 -- "distinct", by number
+unfoldable pub unlikeEarlier : Polygon → ℕ → Bool
+unlikeEarlier p j = every j (λ i. not (eqb (corner p i) (corner p j)))
+
 unfoldable pub distinct : Polygon → Bool
-distinct p = every (cornerCount p) (λ j. every j (λ i. not (eqb (corner p i) (corner p j))))
+distinct p = every (cornerCount p) (unlikeEarlier p)
 
 -- "each below the vertex count"
-unfoldable pub cornersListed : Floor → Polygon → Bool
-cornersListed f p = every (cornerCount p) (λ i. ltb (corner p i) (length (f .vertices)))
+unfoldable pub cornersListed : ℕ → Polygon → Bool
+cornersListed count p = every (cornerCount p) (λ i. ltb (corner p i) count)
 
 -- "3 to 8 corners, distinct, each below the vertex count."
-unfoldable pub cornersRight : Floor → Polygon → Bool
-cornersRight f p = leb 3 (cornerCount p) && (restUnused (p .corners) (cornerCount p) && (distinct p && cornersListed f p))
+unfoldable pub cornersRight : ℕ → Polygon → Bool
+cornersRight count p =
+    leb 3 (cornerCount p)
+    && (restUnused (corner p) (length (p .corners)) (cornerCount p) && (distinct p && cornersListed count p))
 
 -- ---- 6: a polygon's links
 
 -- "Q is another listed polygon with an edge (b,a) that names P": one of Q's edges runs from b to a and has P across it
+unfoldable pub isBack : Polygon → ℕ → ℕ → ℕ → ℕ → Bool
+isBack q p a b j = eqb (corner q j) b && (eqb (cornerAfter q j) a && eqb (neighbour q j) p)
+
 unfoldable pub namesBack : Polygon → ℕ → ℕ → ℕ → Bool
-namesBack q p a b = some (cornerCount q) (λ j. eqb (corner q j) b && (eqb (cornerAfter q j) a && eqb (neighbour q j) p))
+namesBack q p a b = some (cornerCount q) (isBack q p a b)
 
 -- "if P names Q across edge (a,b), then .." : across edge i stands a wall, or such a Q
 unfoldable pub linkRight : Floor → ℕ → ℕ → Bool
@@ -60,7 +68,7 @@ linkRight f p i =
 unfoldable pub linksRight : Floor → ℕ → Bool
 linksRight f p =
     let n = cornerCount (polygon f p) in
-    every n (linkRight f p) && restUnused (polygon f p .neighbours) n
+    every n (linkRight f p) && restUnused (neighbour (polygon f p)) (length (polygon f p .neighbours)) n
 
 -- ---- 7: the question
 

@@ -1,6 +1,7 @@
 // The floor as stored: its records read off lent bytes, the tests 2 to 9, and which vertices turn.
 
 mod stored;
+mod tests;
 
 // Why a floor or a question is refused, with the lowest record at fault where there is one.
 pub enum Refusal {

@@ -54,7 +54,7 @@ pub fn neighbour(polygons: &[u8], slots: usize, p: usize, i: usize) -> u32
 // How many corners a polygon has: those before the first unused slot.
 pub fn corner_count(polygons: &[u8], slots: usize, p: usize) -> usize
     requires { ⌜ (slots ≤ 16) × (p < length (now polygons) / (slots * 8)) ⌝ }
-    ensures { λ r. ⌜ r ≡ cornerCount (polygonAt slots (now (polygons .entry)) p) ⌝ }
+    ensures { λ r. ⌜ (r ≡ cornerCount (polygonAt slots (now (polygons .entry)) p)) × (r ≤ slots) ⌝ }
 {
     let mut i = 0;
     while i < slots {

@@ -28,7 +28,7 @@ corner-requires c κs = search needs
 
 returns : tie.Need-returns Inv-loop μ-loop
 unfolding cornerCount
-returns c = rw (corner-slots _ _ _) (sym (first-is _ _ _ (omega arith) (c .before .before .before .loop .inv .1) (λ l. rw (← c .before .corner .ensures, eq-eqb _ _ (c .if1 .taken)))))
+returns c = (rw (corner-slots _ _ _) (sym (first-is _ _ _ (omega arith) (c .before .before .before .loop .inv .1) (λ l. rw (← c .before .corner .ensures, eq-eqb _ _ (c .if1 .taken))))), omega arith)
 
 add-i : tie.Need-add-i Inv-loop μ-loop
 add-i c = omega arith
@@ -41,7 +41,7 @@ loop-again c = (omega arith, below-more _ _ (c .before .before .before .loop .in
 
 returns-2 : tie.Need-returns-2 Inv-loop μ-loop
 unfolding cornerCount
-returns-2 c = rw (corner-slots _ _ _) (sym (first-is _ _ _ (omega arith) (λ k l. c .before .loop .inv .1 k (omega arith)) (λ l. absurd (omega arith))))
+returns-2 c = (rw (corner-slots _ _ _) (sym (first-is _ _ _ (omega arith) (λ k l. c .before .loop .inv .1 k (omega arith)) (λ l. absurd (omega arith)))), omega arith)
 
 pub corner-count-spec : {M : Type 1} → statement M
 corner-count-spec =
