@@ -1,3 +1,4 @@
--- The laws of the stored floor that belong to no one function.
+-- The laws of the stored floor that belong to no one function. Decided is the one to read.
 pub mod Records
 pub mod Linked
+pub mod Decided
