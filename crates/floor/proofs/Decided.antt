@@ -1,10 +1,9 @@
 -- The tests decide what document 01 says of a vertex, of a polygon's corners and of its links, both ways. Assumes nothing.
-use Prim.Native.Nat.{ℕ, _+_, _-_, _*_, _/_, _≤_, _<_}
-use native.Mathlib.Nat.{lt-of-lt-of-le}
+use Prim.Native.Nat.{ℕ, _+_, _-_, _/_, _%_, _≤_, _<_}
 use native.Mathlib.Omega.{arith}
-use native.Mathlib.Decide.{decLt}
 use mathlib.Core.Path.{_≡_, refl, sym, ap, _∙_, subst}
 use mathlib.Core.Bool.{Bool, true, false, not, _&&_, _||_}
+use mathlib.Core.List.{List}
 use mathlib.Core.Logic.{_↔_, _⊎_, inl, inr, ⊎-elim}
 use borrow.Author.Tests.{leb-true, le-leb, eqb-true, eqb-false, eq-eqb, ne-eqb, ltb-true, lt-ltb, not-true, not-false}
 use lib.Dec.{T, leb, eqb, ltb}
@@ -15,7 +14,7 @@ use Rattle.counts.proofs.Decides.{every-decides}
 use Rattle.float.proofs.Tests.{and-true, or-true, untrue}
 use Rattle.helpers.specs.declared.point.Point.{Point}
 use Rattle.floor.specs.Stored.{Floor, Polygon, unused, corner, neighbour, cornerCount, cornerAfter, polygon, isListed}
-use Rattle.floor.specs.Tests.{coordinateRight, pointRight, restUnused, unlikeEarlier, distinct, cornersListed, cornersRight, isBack, namesBack, linkRight, linksRight}
+use Rattle.floor.specs.Tests.{lengthRight, coordinateRight, pointRight, restUnused, unlikeEarlier, distinct, cornersListed, cornersRight, isBack, namesBack, linkRight, linksRight}
 use Rattle.floor.specs.Accepted.{InRange, Corners, Back, Links}
 
 -- ---- tests that are joined
@@ -31,6 +30,16 @@ through d f g = ((λ h. f (d .0 h)), (λ h. d .1 (g h)))
 
 same : {a : Bool} → a ≡ true ↔ a ≡ true
 same = ((λ h. h), (λ h. h))
+
+equal : (m n : ℕ) → eqb m n ≡ true ↔ m ≡ n
+equal m n = (eqb-true m n, eq-eqb m n)
+
+-- ---- 2 and 3
+
+pub length-decided : (size most : ℕ) (bytes : List ℕ) → lengthRight size most bytes ≡ true ↔ ((length bytes % size ≡ 0) × ((1 ≤ length bytes / size) × (length bytes / size ≤ most)))
+unfolding lengthRight
+length-decided size most bytes =
+    both (equal (length bytes % size) 0) (both (leb-true 1 (length bytes / size), le-leb 1 (length bytes / size)) (leb-true (length bytes / size) most, le-leb (length bytes / size) most))
 
 -- ---- 4
 
@@ -78,9 +87,6 @@ corners-decided f p =
 back-decided : (q : Polygon) (p a b j : ℕ) → isBack q p a b j ≡ true ↔ ((corner q j ≡ b) × ((cornerAfter q j ≡ a) × (neighbour q j ≡ p)))
 unfolding isBack
 back-decided q p a b j = both (equal (corner q j) b) (both (equal (cornerAfter q j) a) (equal (neighbour q j) p))
-  where
-    equal : (m n : ℕ) → eqb m n ≡ true ↔ m ≡ n
-    equal m n = (eqb-true m n, eq-eqb m n)
 
 module _ (f : Floor) (p i : ℕ) where
   q : ℕ
@@ -93,14 +99,17 @@ module _ (f : Floor) (p i : ℕ) where
       through
       (both (differs q p) (both ((ltb-true q (length (f .polygons)), lt-ltb q (length (f .polygons)))) same))
       (λ h.
-        let s = some-at (cornerCount (polygon f q)) (isBack (polygon f q) p (corner (polygon f p) i) (cornerAfter (polygon f p) i)) (h .1 .1) in
-        let t = back-decided (polygon f q) p (corner (polygon f p) i) (cornerAfter (polygon f p) i) (s .0) .0 (s .2) in
-        record { another = h .0; listed = h .1 .0; place = s .0; in-place = s .1; starts = t .0; ends = t .1 .0; names = t .1 .1 })
-      (λ r.
-        (r .another,
-        (r .listed,
-        some-true (cornerCount (polygon f q)) (isBack (polygon f q) p (corner (polygon f p) i) (cornerAfter (polygon f p) i)) (r .place) (r .in-place)
-        (back-decided (polygon f q) p (corner (polygon f p) i) (cornerAfter (polygon f p) i) (r .place) .1 (r .starts, (r .ends, r .names))))))
+      let s = some-at (cornerCount (polygon f q)) (isBack (polygon f q) p (corner (polygon f p) i) (cornerAfter (polygon f p) i)) (h .1 .1) in
+      let t = back-decided (polygon f q) p (corner (polygon f p) i) (cornerAfter (polygon f p) i) (s .0) .0 (s .2) in
+      record { another = h .0; listed = h .1 .0; place = s .0; in-place = s .1; starts = t .0; ends = t .1 .0; names = t .1 .1 })
+      (λ r. (
+        r .another,
+        (
+          r .listed,
+          some-true (cornerCount (polygon f q)) (isBack (polygon f q) p (corner (polygon f p) i) (cornerAfter (polygon f p) i)) (r .place) (r .in-place)
+              (back-decided (polygon f q) p (corner (polygon f p) i) (cornerAfter (polygon f p) i) (r .place) .1 (r .starts, (r .ends, r .names))),
+        ),
+      ))
 
   pub link-decided : linkRight f p i ≡ true ↔ ((neighbour (polygon f p) i ≡ unused) ⊎ Back f p i (neighbour (polygon f p) i))
   unfolding linkRight q

@@ -3,7 +3,7 @@
 use Prim.Native.Nat.{ℕ, _*_}
 use mathlib.Core.Bool.{not, cond}
 use mathlib.Core.List.{List, [], _∷_}
-use lib.Dec.{ltb, eqb}
+use lib.Dec.{ltb}
 use lib.ListN.{length, getD}
 use Rattle.counts.specs.Counts.{first}
 use Rattle.floor.specs.declared.Refusal.{Refusal}
@@ -33,31 +33,21 @@ badLinks f = first (length (f .polygons)) (λ p. not (linksRight f p))
 unfoldable pub floorLookOf : ℕ → List ℕ → List ℕ → FloorLook
 floorLookOf slots vertices polygons =
     let f = floorOf slots vertices polygons in
-    cond (lengthRight 8 1024 vertices)
-    (cond (lengthRight (slots * 8) 512 polygons)
-    (cond (eqb (badVertex f) (length (f .vertices)))
-    (cond (eqb (badCorners f) (length (f .polygons)))
-    (cond (eqb (badLinks f) (length (f .polygons)))
-    Accepted
-    (Faulty (Links (badLinks f))))
-    (Faulty (Corners (badCorners f))))
-    (Faulty (Vertex (badVertex f))))
-    (Faulty PolygonLength))
-    (Faulty VertexLength)
+    cond (not (lengthRight 8 1024 vertices)) (Faulty VertexLength)
+    (cond (not (lengthRight (slots * 8) 512 polygons)) (Faulty PolygonLength)
+    (cond (ltb (badVertex f) (length (f .vertices))) (Faulty (Vertex (badVertex f)))
+    (cond (ltb (badCorners f) (length (f .polygons))) (Faulty (Corners (badCorners f)))
+    (cond (ltb (badLinks f) (length (f .polygons))) (Faulty (Links (badLinks f)))
+    Accepted))))
 
 -- 7 to 9: the question, of a floor that was accepted
 unfoldable pub askOf : Floor → List ℕ → Look
 askOf f question =
     let q = questionOf question in
-    cond (eqb (length question) 16)
-    (cond (questionRight q)
-    (cond (ltb (polygonOf f (q .start)) (length (f .polygons)))
-    (cond (ltb (polygonOf f (q .goal)) (length (f .polygons)))
-    (Inside (polygonOf f (q .start)) (polygonOf f (q .goal)))
-    (Refused GoalOutside))
-    (Refused StartOutside))
-    (Refused Question))
-    (Refused Question)
+    cond (not (questionRight question)) (Refused Question)
+    (cond (not (ltb (polygonOf f (q .start)) (length (f .polygons)))) (Refused StartOutside)
+    (cond (not (ltb (polygonOf f (q .goal)) (length (f .polygons)))) (Refused GoalOutside)
+    (Inside (polygonOf f (q .start)) (polygonOf f (q .goal)))))
 
 -- the floor, then the question
 abbrev pub askIf : FloorLook → Look → Look

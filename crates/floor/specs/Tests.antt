@@ -9,7 +9,7 @@ use lib.Ieee.{Float, neg, le}
 use Rattle.counts.specs.Counts.{every, some}
 use Rattle.helpers.specs.declared.point.Point.{Point}
 use Rattle.helpers.specs.Point.{limit}
-use Rattle.floor.specs.Stored.{Floor, Polygon, Question, unused, corner, neighbour, cornerCount, cornerAfter, polygon, isListed}
+use Rattle.floor.specs.Stored.{Floor, Polygon, questionOf, unused, corner, neighbour, cornerCount, cornerAfter, polygon, isListed}
 
 -- ---- 2 and 3: the lists' lengths
 
@@ -72,6 +72,6 @@ linksRight f p =
 
 -- ---- 7: the question
 
--- "start x, y, goal x, y, in the same range"
-unfoldable pub questionRight : Question → Bool
-questionRight q = pointRight (q .start) && pointRight (q .goal)
+-- "A question is 16 bytes: start x, y, goal x, y, in the same range"
+unfoldable pub questionRight : List ℕ → Bool
+questionRight bytes = eqb (length bytes) 16 && (pointRight (questionOf bytes .start) && pointRight (questionOf bytes .goal))

@@ -1,7 +1,31 @@
-// The floor as stored: its records read off lent bytes, the tests 2 to 9, and which vertices turn.
+// The floor as stored: its records read off lent bytes, the tests 2 to 9, and which vertices turn. A floor is two lists of
+// records and the number of corner slots in a polygon's; a list holds at most as many records as document 01 says.
+
+ghost use mathlib.Core.Path.{_≡_};
+ghost use Prim.Native.Nat.{_*_, _/_, _≤_, _<_, _^_};
+ghost use mathlib.Core.Bool.{not};
+ghost use lib.ListN.{length, getD};
+ghost use Rattle.helpers.specs.declared.EdgeSide.the-variants.{Right};
+ghost use Rattle.helpers.specs.Helpers.{sideOf, sameSideOf};
+ghost use Rattle.floor.specs.Stored.{origin, floorOf, questionOf, polygon, cornerCount, edge};
+ghost use Rattle.floor.specs.Tests.{pointRight, cornersRight};
+ghost use Rattle.floor.specs.Accepted.{Accepted};
+ghost use Rattle.floor.specs.Where.{contains, polygonOf};
+ghost use Rattle.floor.specs.Look.{badVertex, badCorners, badLinks, floorLookOf, askOf, lookOf};
+use helpers::EdgeSide;
+use helpers::Point;
+use helpers::Segment;
 
 mod stored;
 mod tests;
+
+// How many corners a polygon's record has room for.
+pub const SLOTS: usize = 8;
+
+// The most records of each list.
+const MOST_VERTICES: usize = 1024;
+
+const MOST_POLYGONS: usize = 512;
 
 // Why a floor or a question is refused, with the lowest record at fault where there is one.
 pub enum Refusal {
@@ -33,4 +57,93 @@ pub enum FloorLook {
 pub enum Look {
     Inside(usize, usize),
     Refused(Refusal),
+}
+
+// 4: vertex v.
+fn vertex_right(vertices: &[u8], polygons: &[u8], slots: usize, v: usize) -> bool
+    requires { ⌜ v < length (now vertices) / 8 ⌝ }
+    ensures { λ r. ⌜ r ≡ pointRight (getD (floorOf slots (now (vertices .entry)) (now (polygons .entry)) .vertices) v origin) ⌝ }
+{
+    tests::point_right(stored::stored_vertex(vertices, v))
+}
+
+// 4: the lowest vertex at fault, or the number of vertices.
+fn bad_vertex(vertices: &[u8], polygons: &[u8], slots: usize) -> usize
+    ensures { λ r. ⌜ r ≡ badVertex (floorOf slots (now (vertices .entry)) (now (polygons .entry))) ⌝ }
+{
+    let n = vertices.len() / 8;
+    let mut v = 0;
+    while v < n {
+        if !vertex_right(vertices, polygons, slots, v) {
+            return v;
+        }
+        v += 1;
+    }
+    v
+}
+
+// 5: the corners of polygon p.
+fn corners_right(vertices: &[u8], polygons: &[u8], slots: usize, p: usize) -> bool
+    requires { ⌜ (slots ≤ 16) × (p < length (now polygons) / (slots * 8)) ⌝ }
+    ensures { λ r. ⌜ r ≡ cornersRight (length (floorOf slots (now (vertices .entry)) (now (polygons .entry)) .vertices)) (polygon (floorOf slots (now (vertices .entry)) (now (polygons .entry))) p) ⌝ }
+{
+    tests::corners_right(polygons, slots, p, vertices.len() / 8)
+}
+
+// 5: the lowest polygon at fault, or the number of polygons.
+fn bad_corners(vertices: &[u8], polygons: &[u8], slots: usize) -> usize
+    requires { ⌜ (0 < slots) × (slots ≤ 16) ⌝ }
+    ensures { λ r. ⌜ r ≡ badCorners (floorOf slots (now (vertices .entry)) (now (polygons .entry))) ⌝ }
+{
+    let n = stored::polygon_count(polygons, slots);
+    let mut p = 0;
+    while p < n {
+        if !corners_right(vertices, polygons, slots, p) {
+            return p;
+        }
+        p += 1;
+    }
+    p
+}
+
+// 6: the lowest polygon at fault, or the number of polygons.
+fn bad_links(vertices: &[u8], polygons: &[u8], slots: usize) -> usize
+    requires { ⌜ (0 < slots) × (slots ≤ 16) × (length (now polygons) / (slots * 8) ≤ 512) ⌝ }
+    ensures { λ r. ⌜ r ≡ badLinks (floorOf slots (now (vertices .entry)) (now (polygons .entry))) ⌝ }
+{
+    let n = stored::polygon_count(polygons, slots);
+    let mut p = 0;
+    while p < n {
+        if !tests::links_right(vertices, polygons, slots, p) {
+            return p;
+        }
+        p += 1;
+    }
+    p
+}
+
+// 2 to 6, in table order, each over all records before the next.
+pub fn look_at_floor(vertices: &[u8], polygons: &[u8]) -> FloorLook
+    ensures { λ r. ⌜ r ≡ floorLookOf 8 (now (vertices .entry)) (now (polygons .entry)) ⌝ }
+{
+    if !tests::length_right(vertices, 8, MOST_VERTICES) {
+        return FloorLook::Faulty(Refusal::VertexLength);
+    }
+    if !tests::length_right(polygons, SLOTS * 8, MOST_POLYGONS) {
+        return FloorLook::Faulty(Refusal::PolygonLength);
+    }
+    let v = bad_vertex(vertices, polygons, SLOTS);
+    if v < vertices.len() / 8 {
+        return FloorLook::Faulty(Refusal::Vertex(v));
+    }
+    let n = stored::polygon_count(polygons, SLOTS);
+    let p = bad_corners(vertices, polygons, SLOTS);
+    if p < n {
+        return FloorLook::Faulty(Refusal::Corners(p));
+    }
+    let p = bad_links(vertices, polygons, SLOTS);
+    if p < n {
+        return FloorLook::Faulty(Refusal::Links(p));
+    }
+    FloorLook::Accepted
 }
