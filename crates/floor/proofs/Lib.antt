@@ -2,3 +2,5 @@
 pub mod Records
 pub mod Linked
 pub mod Decided
+pub mod Inside
+pub mod Looked

@@ -1,13 +1,14 @@
 -- Document 01, "The floor, as stored": what an accepted floor is, in its words. The tests decide just this (proofs/Decided). Assumes nothing.
-use Prim.Native.Nat.{ℕ, _≤_, _<_}
+use Prim.Native.Nat.{ℕ, _*_, _/_, _≤_, _<_}
 use mathlib.Core.Path.{_≡_}
 use mathlib.Core.Bool.{true}
+use mathlib.Core.List.{List}
 use mathlib.Core.Logic.{_⊎_}
 use lib.ListN.{length, getD}
 use lib.Ieee.{le, neg}
 use Rattle.helpers.specs.declared.point.Point.{Point}
 use Rattle.helpers.specs.Point.{limit}
-use Rattle.floor.specs.Stored.{Floor, Polygon, unused, origin, corner, neighbour, cornerCount, cornerAfter, polygon}
+use Rattle.floor.specs.Stored.{Floor, Polygon, polygonAt, floorOf, unused, origin, corner, neighbour, cornerCount, cornerAfter, polygon}
 
 -- "Coordinates are finite, of magnitude at most 16,384."
 pub record InRange (p : Point) : Type 0 where
@@ -42,3 +43,12 @@ pub record Accepted (f : Floor) : Type 0 where
   pub vertices : (v : ℕ) → v < length (f .vertices) → InRange (getD (f .vertices) v origin)
   pub corners : (p : ℕ) → p < length (f .polygons) → Corners f (polygon f p)
   pub links : (p : ℕ) → p < length (f .polygons) → Links f p
+
+-- ---- below the door
+
+-- what a function on a polygon of a floor asks: the polygon is listed, and its corners are right
+pub record Listed (slots : ℕ) (vertices polygons : List ℕ) (p : ℕ) : Type 0 where
+  pub some : 0 < slots
+  pub few : slots ≤ 16
+  pub listed : p < length polygons / (slots * 8)
+  pub corners : Corners (floorOf slots vertices polygons) (polygonAt slots polygons p)

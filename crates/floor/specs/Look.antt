@@ -3,7 +3,7 @@
 use Prim.Native.Nat.{ℕ, _*_}
 use mathlib.Core.Bool.{not, cond}
 use mathlib.Core.List.{List, [], _∷_}
-use lib.Dec.{ltb}
+use lib.Dec.{leb, ltb}
 use lib.ListN.{length, getD}
 use Rattle.counts.specs.Counts.{first}
 use Rattle.floor.specs.declared.Refusal.{Refusal}
@@ -45,8 +45,8 @@ unfoldable pub askOf : Floor → List ℕ → Look
 askOf f question =
     let q = questionOf question in
     cond (not (questionRight question)) (Refused Question)
-    (cond (not (ltb (polygonOf f (q .start)) (length (f .polygons)))) (Refused StartOutside)
-    (cond (not (ltb (polygonOf f (q .goal)) (length (f .polygons)))) (Refused GoalOutside)
+    (cond (leb (length (f .polygons)) (polygonOf f (q .start))) (Refused StartOutside)
+    (cond (leb (length (f .polygons)) (polygonOf f (q .goal))) (Refused GoalOutside)
     (Inside (polygonOf f (q .start)) (polygonOf f (q .goal)))))
 
 -- the floor, then the question

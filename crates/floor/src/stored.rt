@@ -5,7 +5,7 @@ ghost use Prim.Native.Nat.{_+_, _*_, _/_, _≤_, _<_};
 ghost use mathlib.Core.Bool.{cond};
 ghost use lib.ListN.{length};
 ghost use Rattle.helpers.specs.Point.{plusOf};
-ghost use Rattle.floor.specs.Stored.{unused, origin, vertexAt, polygonAt, corner, neighbour, cornerCount, cornerAfter};
+ghost use Rattle.floor.specs.Stored.{unused, origin, vertexAt, polygonAt, questionOf, corner, neighbour, cornerCount, cornerAfter};
 use helpers::Point;
 
 // No vertex and no polygon has this number: an unused slot, or a wall.
@@ -79,4 +79,20 @@ pub fn corner_after(polygons: &[u8], slots: usize, p: usize, i: usize) -> u32
         return corner(polygons, slots, p, 0);
     }
     next
+}
+
+// The start of a question.
+pub fn question_start(question: &[u8]) -> Point
+    requires { ⌜ length (now question) ≡ 16 ⌝ }
+    ensures { λ r. ⌜ r ≡ questionOf (now (question .entry)) .start ⌝ }
+{
+    Point::from_bits(word::read(question, 0), word::read(question, 4))
+}
+
+// The goal of a question.
+pub fn question_goal(question: &[u8]) -> Point
+    requires { ⌜ length (now question) ≡ 16 ⌝ }
+    ensures { λ r. ⌜ r ≡ questionOf (now (question .entry)) .goal ⌝ }
+{
+    Point::from_bits(word::read(question, 8), word::read(question, 12))
 }
