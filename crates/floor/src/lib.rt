@@ -18,6 +18,7 @@ use helpers::Segment;
 
 mod stored;
 mod tests;
+mod turns;
 
 // How many corners a polygon's record has room for.
 pub const SLOTS: usize = 8;
