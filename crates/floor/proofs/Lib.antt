@@ -4,3 +4,4 @@ pub mod Linked
 pub mod Decided
 pub mod Inside
 pub mod Looked
+pub mod Turned
