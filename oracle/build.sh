@@ -22,13 +22,14 @@ install_missing() { # PACKAGE...
     done
     [ ${#missing[@]} -gt 0 ] || return 0
     echo "oracle: installing ${missing[*]}"
+    as_root apt-get update -qq
     as_root env DEBIAN_FRONTEND=noninteractive apt-get install -qq --no-install-recommends "${missing[@]}" >"$out/apt.log" 2>&1 ||
-        fail "apt-get could not install them ($out/apt.log says why; perhaps apt-get update helps)"
+        fail "apt-get could not install them ($out/apt.log says why)"
 }
 
 # Debian 12 has a current compiler under the name rustc-web; later releases have it as rustc.
 web() {
-    if apt-cache show rustc-web >/dev/null 2>&1; then echo -web; fi
+    if dpkg-query -W rustc-web >/dev/null 2>&1 || apt-cache show rustc-web >/dev/null 2>&1; then echo -web; fi
 }
 
 # A compiler for this machine's own programs, and the crates that the extract leans on.
@@ -48,30 +49,23 @@ install_rust() {
 install_x86() {
     emulator=''
     [ "$processor" != x86_64 ] || return 0
-    if ! dpkg --print-foreign-architectures | grep -qx amd64; then
-        as_root dpkg --add-architecture amd64
-        as_root apt-get update -qq
-    fi
+    dpkg --print-foreign-architectures | grep -qx amd64 || as_root dpkg --add-architecture amd64
     install_missing "libstd-rust$(web)-dev:amd64" gcc-x86-64-linux-gnu libc6-dev-amd64-cross libc6:amd64 qemu-user
     export CARGO_TARGET_X86_64_UNKNOWN_LINUX_GNU_LINKER=x86_64-linux-gnu-gcc
     emulator=qemu-x86_64
 }
 
-# glam's own text where Debian's mirror has it, else the stand-in. The package is source alone, the same for
-# every processor; it is of a later Debian than 12, so it is unpacked here and not installed.
+# glam's own text where this Debian has a package of it (Debian 12 has none), else the stand-in.
 lay_glam() {
-    local name=librust-glam-dev_0.30.1-3_arm64.deb
-    local sum=b85bc22a857614195062551e2dcfbc7f2ef09360e45cba8777673b5f06673fb3
-    local package=$out/$name
-    [ -f "$package" ] || curl -fsS --max-time 60 -o "$package" "$name" || true
-    if echo "$sum  $package" | sha256sum --status -c 2>/dev/null; then
-        dpkg-deb -x "$package" "$out/glam"
-        cp -r "$out/glam/usr/share/cargo/registry/glam-0.30.1" "$crates/glam"
-        glam='glam 0.30.1'
+    if apt-cache show librust-glam-dev >/dev/null 2>&1; then install_missing librust-glam-dev; fi
+    local found
+    found=$(ls -d /usr/share/cargo/registry/glam-[0-9]* 2>/dev/null | tail -n 1 || true)
+    if [ -n "$found" ]; then
+        cp -r "$found" "$crates/glam"
+        glam=$(basename "$found")
     else
-        rm -f "$package"
         cp -r "$here/glam" "$crates/glam"
-        glam="our stand-in for glam only, whose own text could not be had"
+        glam="our stand-in for glam only, whose own text is not at hand"
     fi
 }
 

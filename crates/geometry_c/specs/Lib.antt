@@ -1,2 +1,3 @@
 -- What the contracts of `geometry_c` cite beside those of `helpers`.
 pub mod Export
+pub mod Clip

@@ -13,6 +13,8 @@ use helpers::Point;
 use helpers::Segment;
 use helpers::Turn;
 
+mod clip;
+
 // The segment between two points, each coordinate a bit pattern.
 fn segment(ax: u32, ay: u32, bx: u32, by: u32) -> Segment
     ensures { λ r. ⌜ r ≡ segmentOf ax ay bx by ⌝ }

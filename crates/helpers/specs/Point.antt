@@ -39,6 +39,10 @@ slack = ofBits binary32 0x3C23D70A
 abbrev pub landing : Float
 landing = ofBits binary32 0x3B03126F
 
+-- 1e-6: "Cut points within squared distance 1e-6 of an end are passed over as written."
+abbrev pub apart : Float
+apart = ofBits binary32 0x358637BD
+
 -- ---- points
 
 -- 01, Geometry: "A point is two f32"

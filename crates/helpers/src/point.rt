@@ -28,6 +28,9 @@ impl Point {
     // An interval's end lands on a vertex that is nearer than this.
     pub const LANDING: f32 = 0.002;
 
+    // A cut of an edge at this squared distance of its end or nearer is passed over.
+    pub const APART: f32 = 1e-6;
+
     pub fn new(x: f32, y: f32) -> Point
         ensures { λ r. ⌜ r ≡ pointOf x y ⌝ }
     {

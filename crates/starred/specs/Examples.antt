@@ -14,6 +14,9 @@ use Rattle.helpers.specs.declared.Turn.{Turn}
 use Rattle.helpers.specs.declared.Turn.the-variants.{Around, Straight}
 use Rattle.helpers.specs.Point.{fromBitsOf}
 use Rattle.helpers.specs.Helpers.{sideOf, intersectionTimeOf, lineIntersectSegmentOf, heuristicOf, turningPointOf}
+use Rattle.cone.specs.declared.Clipped.{Clipped}
+use Rattle.cone.specs.declared.Clipped.the-variants.{Seen, Nothing}
+use Rattle.cone.specs.Cone.{clipToConeOf}
 use Rattle.root.specs.Root.{rootOf}
 
 -- ---- numbers, as the bit patterns of their f32
@@ -39,6 +42,9 @@ abbrev 4' : ℕ
 abbrev -1' : ℕ
 -1' = 0xBF800000
 
+abbrev -3' : ℕ
+-3' = 0xC0400000
+
 -- f32 1e-4, and the float below
 abbrev epsilon' : ℕ
 epsilon' = 0x38D1B717
@@ -63,6 +69,7 @@ pub data Row : Type 0 where
   time : Segment → Segment → Float → Row
   heuristic : Point → Point → Segment → Float → Row
   turning-point : Point → Point → Segment → Turn → Row
+  clip : Point → Segment → Segment → Clipped → Row
   root : ℕ → ℕ → Row
 
 abbrev pub Holds : Row → Type 0
@@ -71,6 +78,7 @@ Holds (meets l s c) = lineIntersectSegmentOf l s ≡ c
 Holds (time l s t) = intersectionTimeOf l s ≡ t
 Holds (heuristic r g i h) = heuristicOf r g i ≡ h
 Holds (turning-point r g i t) = turningPointOf r g i ≡ t
+Holds (clip r c s seen) = clipToConeOf r c s ≡ seen
 Holds (root x r) = toBits binary32 (rootOf (f32 x)) ≡ r
 
 abbrev pub Every : List Row → Type 0
@@ -94,6 +102,8 @@ table =
     ∷ heuristic (fromBitsOf 0' 0') (fromBitsOf 0' 4') (line 1' 2' -1' 2') (f32 4')
     ∷ heuristic (fromBitsOf 0' 0') (fromBitsOf 0' 1') (line 1' 2' -1' 2') (f32 3')
     ∷ turning-point (fromBitsOf 0' 0') (fromBitsOf 4' 4') (line 1' 2' -1' 2') (Around (fromBitsOf 1' 2'))
+    -- "Clip, root (0,0), cone (1,0),(0,1): (2,−3),(3,−3) none."
+    ∷ clip (fromBitsOf 0' 0') (line 1' 0' 0' 1') (line 2' -3' 3' -3') Nothing
     -- "root of 2 is 0x3FB504F3; of 0x00000001, 0x1A3504F3."
     ∷ root 2' 0x3FB504F3
     ∷ root 0x00000001 0x1A3504F3

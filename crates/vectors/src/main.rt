@@ -2,6 +2,7 @@
 // last lines count what was as it should be.
 
 ghost use Prim.Native.Nat.{_≤_};
+use cone::Clipped;
 use helpers::Crossing;
 use helpers::EdgeSide;
 use helpers::Point;
@@ -123,6 +124,7 @@ fn main() {
     sides();
     crossings();
     ways_to_the_goal();
+    clips();
     roots();
 }
 
@@ -213,6 +215,21 @@ fn ways_to_the_goal() {
     match helpers::turning_point(root, Point::new(4.0, 4.0), interval) {
         Turn::Around(point) => say_point(point),
         Turn::Straight => say(b"none\n"),
+    }
+}
+
+fn clips() {
+    let root = Point::new(0.0, 0.0);
+    let interval = Segment(Point::new(1.0, 0.0), Point::new(0.0, 1.0));
+    let segment = Segment(Point::new(2.0, -3.0), Point::new(3.0, -3.0));
+    say(b"root (0,0), cone (1,0),(0,1)\n");
+    say(b"  clip of (2,-3),(3,-3): ");
+    match cone::clip_to_cone(root, interval, segment) {
+        Clipped::Seen(seen) => {
+            say_point(seen.0);
+            say_point(seen.1);
+        }
+        Clipped::Nothing => say(b"none\n"),
     }
 }
 

@@ -1,0 +1,21 @@
+-- `cone::Cone::from_left` meets its contract: its return is its definition, by what its callees ensure. Assumes nothing.
+use borrow.Author.Needs.{needs}
+use Rattle.cone.specs.Cone.{fromLeftOf}
+use Rattle.cone.proofs.Cone.from_left.Statement.{statement}
+use Rattle.cone.proofs.Cone.from_left.Tie as tie
+
+minus-requires : tie.Need-minus-requires
+minus-requires c κs = search needs
+
+perp-dot-requires : tie.Need-perp-dot-requires
+perp-dot-requires c κs = search needs
+
+returns : tie.Need-returns
+unfolding fromLeftOf
+returns c =
+    let c1 = c .before in
+    let c2 = c1 .before in
+    simp (c1 .perp-dot .ensures, c2 .minus .ensures)
+
+pub from-left-spec : {M : Type 1} → statement M
+from-left-spec = tie.close (tie.spec minus-requires perp-dot-requires returns)

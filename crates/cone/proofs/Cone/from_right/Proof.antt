@@ -1,0 +1,21 @@
+-- `cone::Cone::from_right` meets its contract: its return is its definition, by what its callees ensure. Assumes nothing.
+use borrow.Author.Needs.{needs}
+use Rattle.cone.specs.Cone.{fromRightOf}
+use Rattle.cone.proofs.Cone.from_right.Statement.{statement}
+use Rattle.cone.proofs.Cone.from_right.Tie as tie
+
+minus-requires : tie.Need-minus-requires
+minus-requires c κs = search needs
+
+perp-dot-requires : tie.Need-perp-dot-requires
+perp-dot-requires c κs = search needs
+
+returns : tie.Need-returns
+unfolding fromRightOf
+returns c =
+    let c1 = c .before in
+    let c2 = c1 .before in
+    simp (c1 .perp-dot .ensures, c2 .minus .ensures)
+
+pub from-right-spec : {M : Type 1} → statement M
+from-right-spec = tie.close (tie.spec minus-requires perp-dot-requires returns)

@@ -1,0 +1,20 @@
+-- `cone::Ray::new` meets its contract: its return is its definition, by what its callees ensure. Assumes nothing.
+use borrow.Author.Needs.{needs}
+use Rattle.cone.specs.Cone.{rayOf}
+use Rattle.cone.proofs.Ray.new.Statement.{statement}
+use Rattle.cone.proofs.Ray.new.Tie as tie
+
+minus-requires : tie.Need-minus-requires
+minus-requires c κs = search needs
+
+length-requires : tie.Need-length-requires
+length-requires c κs = search needs
+
+returns : tie.Need-returns
+unfolding rayOf
+returns c =
+    let c1 = c .before in
+    simp (c .length .ensures, c1 .minus .ensures)
+
+pub new-spec : {M : Type 1} → statement M
+new-spec = tie.close (tie.spec minus-requires length-requires returns)

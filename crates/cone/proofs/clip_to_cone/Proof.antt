@@ -1,0 +1,20 @@
+-- `cone::clip_to_cone` meets its contract: its return is its definition, by what its callees ensure. Assumes nothing.
+use borrow.Author.Needs.{needs}
+use Rattle.cone.specs.Cone.{clipToConeOf}
+use Rattle.cone.proofs.clip_to_cone.Statement.{statement}
+use Rattle.cone.proofs.clip_to_cone.Tie as tie
+
+new-requires : tie.Need-new-requires
+new-requires c κs = search needs
+
+clip-requires : tie.Need-clip-requires
+clip-requires c κs = search needs
+
+returns : tie.Need-returns
+unfolding clipToConeOf
+returns c =
+    let c1 = c .before in
+    simp (c .clip .ensures, c1 .new .ensures)
+
+pub clip-to-cone-spec : {M : Type 1} → statement M
+clip-to-cone-spec = tie.close (tie.spec new-requires clip-requires returns)

@@ -1,0 +1,3 @@
+-- What the contracts of `cone` cite.
+pub mod Cone
+pub mod Landing

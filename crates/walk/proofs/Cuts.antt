@@ -1,0 +1,42 @@
+-- The parts that a cut makes of an edge, and those where there is none: what a return of the walk is proved from. Rests on specs/Walk. Assumes nothing.
+use mathlib.Core.Path.{_≡_}
+use mathlib.Core.List.{List, [], _∷_}
+use Rattle.helpers.specs.declared.point.Point.{Point}
+use Rattle.helpers.specs.declared.point.Segment.{Segment}
+use Rattle.helpers.specs.declared.Crossing.the-variants.{At, Nowhere}
+use Rattle.walk.specs.declared.SuccessorType.{SuccessorType}
+use Rattle.walk.specs.declared.Part.{Part}
+use Rattle.walk.specs.declared.Walked.{Walked}
+use Rattle.walk.specs.declared.cut.Cut.{Cut}
+use Rattle.walk.specs.Walk.{firstCutOf, secondCutOf, partOf, oneOf, twoOf, threeOf, held, walkedOf, restOf, walkEdgeOf}
+
+-- ---- the left ray, on what is left of an edge
+
+module _ (left right edge : Segment) (kind : SuccessorType) {second : Cut} (gave : second ≡ secondCutOf left right edge kind) {v : Walked} where
+  pub second-at : (cut : Point) → second .at ≡ At cut → v ≡ twoOf (partOf (edge .0) cut kind) (partOf cut (edge .1) (second .kind)) (second .kind) → v ≡ walkedOf (restOf left right edge kind)
+  unfolding restOf
+  second-at cut is h = rw (← gave, is) h
+
+  pub second-none : second .at ≡ Nowhere → v ≡ oneOf (partOf (edge .0) (edge .1) kind) (second .kind) → v ≡ walkedOf (restOf left right edge kind)
+  unfolding restOf
+  second-none is h = rw (← gave, is) h
+
+  module _ (before : Part) where
+    pub both-at : (cut : Point) → second .at ≡ At cut → v ≡ threeOf before (partOf (edge .0) cut kind) (partOf cut (edge .1) (second .kind)) (second .kind) → v ≡ held (before ∷ (restOf left right edge kind) .parts) ((restOf left right edge kind) .kind)
+    unfolding restOf
+    both-at cut is h = rw (← gave, is) h
+
+    pub first-only : second .at ≡ Nowhere → v ≡ twoOf before (partOf (edge .0) (edge .1) kind) (second .kind) → v ≡ held (before ∷ (restOf left right edge kind) .parts) ((restOf left right edge kind) .kind)
+    unfolding restOf
+    first-only is h = rw (← gave, is) h
+
+-- ---- the right ray, on an edge
+
+module _ (root : Point) (interval edge : Segment) (kind : SuccessorType) {first : Cut} (gave : first ≡ firstCutOf (root, interval .0) edge kind) {v : Walked} where
+  pub first-at : (cut : Point) → first .at ≡ At cut → v ≡ held (partOf (edge .0) cut kind ∷ (restOf (root, interval .1) (root, interval .0) (cut, edge .1) (first .kind)) .parts) ((restOf (root, interval .1) (root, interval .0) (cut, edge .1) (first .kind)) .kind) → v ≡ walkedOf (walkEdgeOf root interval edge kind)
+  unfolding walkEdgeOf
+  first-at cut is h = rw (← gave, is) h
+
+  pub first-none : first .at ≡ Nowhere → v ≡ walkedOf (restOf (root, interval .1) (root, interval .0) edge (first .kind)) → v ≡ walkedOf (walkEdgeOf root interval edge kind)
+  unfolding walkEdgeOf
+  first-none is h = rw (← gave, is) h

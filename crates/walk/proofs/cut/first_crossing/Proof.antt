@@ -1,0 +1,29 @@
+use borrow.Author.Needs.{needs}
+use Rattle.walk.specs.Walk.{firstCrossingOf}
+use Rattle.walk.proofs.cut.first_crossing.Statement.{statement}
+use Rattle.walk.proofs.cut.first_crossing.Tie as tie
+
+apart-from-both-requires : tie.Need-apart-from-both-requires
+apart-from-both-requires c κs = search needs
+
+cut-if-requires : tie.Need-cut-if-requires
+cut-if-requires c κs = search needs
+
+told-apart-requires : tie.Need-told-apart-requires
+told-apart-requires c κs = search needs
+
+seen-if-requires : tie.Need-seen-if-requires
+seen-if-requires c κs = search needs
+
+returns : tie.Need-returns
+unfolding firstCrossingOf
+returns c =
+    let c1 = c .before in
+    let c2 = c1 .before in
+    let c3 = c2 .before in
+    rw (← c3 .apart-from-both .ensures, ← c2 .cut-if .ensures, ← c1 .told-apart .ensures, ← c .seen-if .ensures)
+
+pub first-crossing-spec : {M : Type 1} → statement M
+first-crossing-spec =
+    tie.close
+    (tie.spec apart-from-both-requires cut-if-requires told-apart-requires seen-if-requires returns)

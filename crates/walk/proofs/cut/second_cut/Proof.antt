@@ -1,0 +1,89 @@
+use borrow.Author.Needs.{needs}
+use Rattle.walk.proofs.Arms.{found, on-left, on-right, on-edge, at-point, at-none}
+use Rattle.walk.specs.Walk.{secondCutOf}
+use Rattle.walk.proofs.cut.second_cut.Statement.{statement}
+use Rattle.walk.proofs.cut.second_cut.Tie as tie
+
+side-requires : tie.Need-side-requires
+side-requires c κs = search needs
+
+enum-told : tie.Need-enum-told
+enum-told c = search needs
+
+line-intersect-segment-requires : tie.Need-line-intersect-segment-requires
+line-intersect-segment-requires c κs = search needs
+
+enum-known-crossing : tie.Need-enum-known-crossing
+enum-known-crossing c = search needs
+
+told-apart-requires : tie.Need-told-apart-requires
+told-apart-requires c κs = search needs
+
+cut-if-requires : tie.Need-cut-if-requires
+cut-if-requires c κs = search needs
+
+enum-told-2 : tie.Need-enum-told-2
+enum-told-2 c = search needs
+
+nowhere-requires : tie.Need-nowhere-requires
+nowhere-requires c κs = search needs
+
+enum-told-3 : tie.Need-enum-told-3
+enum-told-3 c = search needs
+
+side-requires-2 : tie.Need-side-requires-2
+side-requires-2 c κs = search needs
+
+unless-right-requires : tie.Need-unless-right-requires
+unless-right-requires c κs = search needs
+
+nowhere-requires-2 : tie.Need-nowhere-requires-2
+nowhere-requires-2 c κs = search needs
+
+enum-told-4 : tie.Need-enum-told-4
+enum-told-4 c = search needs
+
+nowhere-requires-3 : tie.Need-nowhere-requires-3
+nowhere-requires-3 c κs = search needs
+
+returns : tie.Need-returns
+unfolding secondCutOf
+returns c =
+    let c1 = c .before in
+    let c3 = c1 .before .before in
+    let c5 = c3 .before .before in
+    let c6 = c5 .before in
+    let c8 = c6 .before .before in
+    on-left _ _ _ _ (found (c8 .side .ensures) (c6 .enum-told .given .1))
+    (at-point _ _ _ _ (found (c5 .line-intersect-segment .ensures) (c3 .crossing .given .1)) (simp (c .cut-if .ensures, c1 .told-apart .ensures)))
+
+returns-2 : tie.Need-returns-2
+unfolding secondCutOf
+returns-2 c =
+    let c1 = c .before in
+    let c3 = c1 .before .before in
+    let c4 = c3 .before in
+    let c6 = c4 .before .before in
+    on-left _ _ _ _ (found (c6 .side .ensures) (c4 .enum-told .given .1))
+    (at-none _ _ _ (found (c3 .line-intersect-segment .ensures) (c1 .enum-told2 .given .1)) (c .nowhere .ensures))
+
+returns-3 : tie.Need-returns-3
+unfolding secondCutOf
+returns-3 c =
+    let c1 = c .before in
+    let c2 = c1 .before in
+    let c3 = c2 .before in
+    let c5 = c3 .before .before in
+    on-edge _ _ _ _ (found (c5 .side .ensures) (c3 .enum-told3 .given .1)) (simp (c .nowhere2 .ensures, c1 .unless-right .ensures, c2 .side2 .ensures))
+
+returns-4 : tie.Need-returns-4
+unfolding secondCutOf
+returns-4 c =
+    let c1 = c .before in
+    let c3 = c1 .before .before in
+    on-right _ _ _ _ (found (c3 .side .ensures) (c1 .enum-told4 .given .1)) (c .nowhere3 .ensures)
+
+pub second-cut-spec : {M : Type 1} → statement M
+second-cut-spec =
+    tie.close
+    (tie.spec side-requires enum-told line-intersect-segment-requires enum-known-crossing told-apart-requires cut-if-requires enum-told-2 nowhere-requires enum-told-3 side-requires-2 unless-right-requires nowhere-requires-2 enum-told-4 nowhere-requires-3 returns returns-2 returns-3 returns-4)

@@ -1,0 +1,13 @@
+use mathlib.Core.Path.{refl}
+use Rattle.walk.specs.Round.{beginOf}
+use Rattle.walk.proofs.round.Round.begin.Statement.{statement}
+use Rattle.walk.proofs.round.Round.begin.Tie as tie
+
+returns : tie.Need-returns
+unfolding beginOf
+returns c = refl
+
+pub begin-spec : {M : Type 1} → statement M
+begin-spec =
+    tie.close
+    (tie.spec returns)

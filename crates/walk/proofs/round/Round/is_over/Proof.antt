@@ -1,0 +1,17 @@
+use borrow.Author.Needs.{needs}
+use mathlib.Core.Path.{refl}
+use Rattle.walk.specs.Round.{isOverOf}
+use Rattle.walk.proofs.round.Round.is_over.Statement.{statement}
+use Rattle.walk.proofs.round.Round.is_over.Tie as tie
+
+add-result : tie.Need-add-result
+add-result c = search needs
+
+returns : tie.Need-returns
+unfolding isOverOf
+returns c = refl
+
+pub is-over-spec : {M : Type 1} → statement M
+is-over-spec =
+    tie.close
+    (tie.spec add-result returns)

@@ -1,0 +1,102 @@
+-- Round a polygon, as document 01 has it under "The walk": each edge but the entry edge in its turn, the kind going from one to the next. Rests on specs/Walk.
+-- Assumes nothing.
+use Prim.Native.Nat.{ℕ, zero, suc, _+_, _-_, _<_}
+use mathlib.Core.Bool.{Bool, cond}
+use mathlib.Core.List.{List, [], _∷_, _++_, map}
+use lib.Dec.{ltb, leb}
+use lib.Ieee.{nan}
+use lib.ListN.{length, getD, drop}
+use Rattle.helpers.specs.declared.point.Point.{Point}
+use Rattle.helpers.specs.declared.point.Segment.{Segment}
+use Rattle.helpers.specs.Point.{pointOf}
+use Rattle.walk.specs.declared.SuccessorType.{SuccessorType}
+use Rattle.walk.specs.declared.SuccessorType.the-variants.{RightNonObservable}
+use Rattle.walk.specs.declared.Part.{Part}
+use Rattle.walk.specs.declared.round.Round.{Round}
+use Rattle.walk.specs.Walk.{Walk, walkEdgeOf}
+
+-- ---- edges
+
+-- a number that has run past the last of n, taken up again from the first
+unfoldable pub wrapped : ℕ → ℕ → ℕ
+wrapped n i = cond (ltb i n) i (i - n)
+
+unfoldable pub cornerOf : List Point → ℕ → Point
+cornerOf corners i = getD corners i (pointOf nan nan)
+
+-- 01, The floor: "Edge i runs from corner i to corner i+1, cyclically."
+unfoldable pub edgeOf : List Point → ℕ → Segment
+edgeOf corners i = (cornerOf corners i, cornerOf corners (wrapped (length corners) (i + 1)))
+
+-- the k-th edge after the entry edge, of n: for i in right_index..=left_index { polygon.circular_edge(i) }
+unfoldable pub afterEntry : ℕ → ℕ → ℕ → ℕ
+afterEntry n entry k = wrapped n (entry + 1 + k)
+
+-- k edges from the i-th after the entry edge on
+unfoldable pub edgesFrom : ℕ → ℕ → ℕ → ℕ → List ℕ
+edgesFrom n entry i zero = []
+edgesFrom n entry i (suc k) = afterEntry n entry i ∷ edgesFrom n entry (suc i) k
+
+-- 01, The walk: "It begins after the entry edge and visits the n − 1 others once."
+unfoldable pub others : ℕ → ℕ → List ℕ
+others n entry = edgesFrom n entry 0 (n - 1)
+
+-- ---- the walk
+
+-- an interval of an edge, by the edge's number
+pub record Successor : Type 0 where
+  pub edge : ℕ
+  pub part : Part
+
+abbrev pub successorsOn : ℕ → List Part → List Successor
+successorsOn i parts = map (λ part. record { edge = i; part = part }) parts
+
+-- one edge after the other, each with the kind that the last one left
+unfoldable pub walkOf : Point → Segment → List Point → SuccessorType → List ℕ → List Successor
+walkOf root interval corners kind [] = []
+walkOf root interval corners kind (i ∷ is) =
+    let walk = walkEdgeOf root interval (edgeOf corners i) kind in
+    successorsOn i (walk .parts) ++ walkOf root interval corners (walk .kind) is
+
+-- let mut ty = SuccessorType::RightNonObservable;
+unfoldable pub successorsOf : Point → Segment → List Point → ℕ → List Successor
+successorsOf root interval corners entry = walkOf root interval corners RightNonObservable (others (length corners) entry)
+
+-- ---- the walk in turns
+
+unfoldable pub beginOf : ℕ → ℕ → Round
+beginOf entry count = record { entry = entry; count = count; taken = 0; kind = RightNonObservable }
+
+unfoldable pub isOverOf : Round → Bool
+isOverOf round = leb (round .count) (round .taken + 1)
+
+unfoldable pub edgeNumberOf : Round → ℕ
+edgeNumberOf round = afterEntry (round .count) (round .entry) (round .taken)
+
+unfoldable pub nextOf : Round → SuccessorType → Round
+nextOf round kind = record { entry = round .entry; count = round .count; taken = round .taken + 1; kind = kind }
+
+-- a turn: the edge that is walked, what it yields, and the round after it
+unfoldable pub turnOf : Point → Segment → List Point → Round → Walk
+turnOf root interval corners round = walkEdgeOf root interval (edgeOf corners (edgeNumberOf round)) (round .kind)
+
+unfoldable pub yieldsOf : Point → Segment → List Point → Round → List Successor
+yieldsOf root interval corners round = successorsOn (edgeNumberOf round) ((turnOf root interval corners round) .parts)
+
+unfoldable pub turnedOf : Point → Segment → List Point → Round → Round
+turnedOf root interval corners round = nextOf round ((turnOf root interval corners round) .kind)
+
+-- after k turns: the round, and what was yielded
+unfoldable pub roundAfter : Point → Segment → List Point → ℕ → ℕ → Round
+roundAfter root interval corners entry zero = beginOf entry (length corners)
+roundAfter root interval corners entry (suc k) = turnedOf root interval corners (roundAfter root interval corners entry k)
+
+unfoldable pub yieldedAfter : Point → Segment → List Point → ℕ → ℕ → List Successor
+yieldedAfter root interval corners entry zero = []
+yieldedAfter root interval corners entry (suc k) =
+    yieldedAfter root interval corners entry k ++ yieldsOf root interval corners (roundAfter root interval corners entry k)
+
+-- what a round has still to yield
+unfoldable pub leftOf : Point → Segment → List Point → Round → List Successor
+leftOf root interval corners round =
+    walkOf root interval corners (round .kind) (edgesFrom (round .count) (round .entry) (round .taken) (round .count - 1 - round .taken))
