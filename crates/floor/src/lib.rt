@@ -11,7 +11,7 @@ ghost use Rattle.floor.specs.Stored.{origin, polygonAt, floorOf, polygon
 ghost use Rattle.floor.specs.Tests.{pointRight, cornersRight, questionRight};
 ghost use Rattle.floor.specs.Accepted.{Accepted, Listed};
 ghost use Rattle.floor.specs.Where.{contains, polygonOf};
-ghost use Rattle.floor.specs.Look.{badVertex, badCorners, badLinks, floorLookOf, askOf, lookOf};
+ghost use Rattle.floor.specs.Look.{badVertex, badCorners, badLinks, floorLookOf, askOf, lookOf, refusalNumber};
 use helpers::EdgeSide;
 use helpers::Point;
 use helpers::Segment;
@@ -249,5 +249,23 @@ pub fn look_at(vertices: &[u8], polygons: &[u8], question: &[u8]) -> Look
     match look_at_floor(vertices, polygons) {
         FloorLook::Accepted => ask(vertices, polygons, question),
         FloorLook::Faulty(refusal) => Look::Refused(refusal),
+    }
+}
+
+impl Refusal {
+    // The number in document 01's table.
+    pub fn number(self) -> u32
+        ensures { λ r. ⌜ r ≡ refusalNumber self ⌝ }
+    {
+        match self {
+            Refusal::VertexLength => 2,
+            Refusal::PolygonLength => 3,
+            Refusal::Vertex(_) => 4,
+            Refusal::Corners(_) => 5,
+            Refusal::Links(_) => 6,
+            Refusal::Question => 7,
+            Refusal::StartOutside => 8,
+            Refusal::GoalOutside => 9,
+        }
     }
 }
