@@ -1,0 +1,23 @@
+-- What holds of every number below n, of some, which is the first, and the list of what a function gives at each. Definitions only. Assumes nothing.
+use Prim.Native.Nat.{ℕ, zero, suc}
+use mathlib.Core.Bool.{Bool, true, false, _&&_, _||_, cond}
+use mathlib.Core.List.{List, [], _∷_, _++_}
+use lib.Dec.{ltb}
+
+unfoldable pub every : ℕ → (ℕ → Bool) → Bool
+every zero f = true
+every (suc n) f = every n f && f n
+
+unfoldable pub some : ℕ → (ℕ → Bool) → Bool
+some zero f = false
+some (suc n) f = some n f || f n
+
+-- the least number below n at which f is true, and n where there is none
+unfoldable pub first : ℕ → (ℕ → Bool) → ℕ
+first zero f = 0
+first (suc n) f = cond (ltb (first n f) n) (first n f) (cond (f n) n (suc n))
+
+-- f 0, f 1 and so on, n of them
+unfoldable pub table {ℓ} : {A : Type ℓ} → ℕ → (ℕ → A) → List A
+table zero f = []
+table (suc n) f = table n f ++ (f n ∷ [])

@@ -1,0 +1,1 @@
+// Definitions and laws only: there is nothing to run.

@@ -1,0 +1,51 @@
+use Prim.Native.Nat.{ℕ, _≤_, _<_, _-_}
+use Rattle.counts.proofs.Laws.{every-false, every-true}
+use borrow.Author.Count.{below-none, below-more}
+use borrow.Author.Needs.{needs}
+use mathlib.Core.Path.{_≡_, sym}
+use native.Mathlib.Omega.{arith}
+use Rattle.floor.specs.Where.{contains}
+use mathlib.Core.Bool.{true, false, not}
+use Rattle.helpers.specs.declared.EdgeSide.the-variants.{Right}
+use Rattle.helpers.specs.Helpers.{sideOf, sameSideOf}
+use Rattle.floor.specs.Stored.{floorOf, edge}
+use Rattle.floor.proofs.Records.{polygon-is}
+use Rattle.floor.proofs.contains.Statement.{statement}
+use Rattle.floor.proofs.contains.Tie as tie
+
+abbrev Inv-loop : tie.InvT-loop
+Inv-loop vertices polygons slots p point n i₀ i = (i ≤ n) × ((k : ℕ) → k < i → not (sameSideOf (sideOf point (edge (floorOf slots vertices polygons) p k)) Right) ≡ true)
+
+abbrev μ-loop : tie.MeasureT-loop
+μ-loop vertices polygons slots p point n i₀ i = n - i
+
+corner-count-requires : tie.Need-corner-count-requires Inv-loop μ-loop
+corner-count-requires c κs = search needs
+
+loop-holds : tie.Need-loop-holds Inv-loop μ-loop
+loop-holds c = (omega arith, below-none _)
+
+is-right-requires : tie.Need-is-right-requires Inv-loop μ-loop
+is-right-requires c κs = search needs
+
+returns : tie.Need-returns Inv-loop μ-loop
+unfolding contains
+returns c = rw (polygon-is _ _ _ _ (c .before .before .before .before .before .before .before .pre .listed), ← c .before .before .before .before .corner-count .ensures .0) (sym (every-false _ _ (c .before .before .before .loop .i) (omega arith) (rw (← c .before .is-right .ensures, c .if1 .taken))))
+
+add-i : tie.Need-add-i Inv-loop μ-loop
+add-i c = omega arith
+
+loop-less : tie.Need-loop-less Inv-loop μ-loop
+loop-less c = omega arith
+
+loop-again : tie.Need-loop-again Inv-loop μ-loop
+loop-again c = (omega arith, below-more _ _ (c .before .before .before .loop .inv .1) (rw (← c .before .is-right .ensures, c .if1 .left)))
+
+returns-2 : tie.Need-returns-2 Inv-loop μ-loop
+unfolding contains
+returns-2 c = rw (polygon-is _ _ _ _ (c .before .before .before .before .before .pre .listed), ← c .before .before .corner-count .ensures .0) (sym (every-true _ _ (λ k l. c .before .loop .inv .1 k (omega arith))))
+
+pub contains-spec : {M : Type 1} → statement M
+contains-spec =
+    tie.close
+    (tie.spec Inv-loop μ-loop corner-count-requires loop-holds is-right-requires returns add-i loop-less loop-again returns-2)

@@ -1,0 +1,45 @@
+use borrow.Author.Needs.{needs}
+use borrow.Author.Tests.{eq-eqb}
+use borrow.Author.Tests.{ne-eqb}
+use Rattle.floor.specs.Tests.{questionRight}
+use Rattle.floor.proofs.question_right.Statement.{statement}
+use Rattle.floor.proofs.question_right.Tie as tie
+
+question-start-requires : tie.Need-question-start-requires
+question-start-requires c κs = search needs
+
+point-right-requires : tie.Need-point-right-requires
+point-right-requires c κs = search needs
+
+question-goal-requires : tie.Need-question-goal-requires
+question-goal-requires c κs = search needs
+
+point-right-requires-2 : tie.Need-point-right-requires-2
+point-right-requires-2 c κs = search needs
+
+returns : tie.Need-returns
+unfolding questionRight
+returns c =
+    let c1 = c .before in
+    let c2 = c1 .before in
+    let c3 = c2 .before in
+    let c4 = c3 .before in
+    let c5 = c4 .before in
+    rw (eq-eqb _ _ (c5 .if1 .taken), ← c4 .question-start .ensures, ← c3 .point-right .ensures, c2 .if2 .taken, ← c1 .question-goal .ensures, ← c .point-right2 .ensures)
+
+returns-2 : tie.Need-returns-2
+unfolding questionRight
+returns-2 c =
+    let c1 = c .before in
+    let c2 = c1 .before in
+    let c3 = c2 .before in
+    rw (eq-eqb _ _ (c3 .if1 .taken), ← c2 .question-start .ensures, ← c1 .point-right .ensures, c .if2 .left)
+
+returns-3 : tie.Need-returns-3
+unfolding questionRight
+returns-3 c = rw (ne-eqb _ _ (c .if1 .left))
+
+pub question-right-spec : {M : Type 1} → statement M
+question-right-spec =
+    tie.close
+    (tie.spec question-start-requires point-right-requires question-goal-requires point-right-requires-2 returns returns-2 returns-3)

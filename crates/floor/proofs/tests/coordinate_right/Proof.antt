@@ -1,0 +1,16 @@
+use Rattle.floor.specs.Tests.{coordinateRight}
+use Rattle.floor.proofs.tests.coordinate_right.Statement.{statement}
+use Rattle.floor.proofs.tests.coordinate_right.Tie as tie
+
+returns : tie.Need-returns
+unfolding coordinateRight
+returns c = rw (c .if1 .taken)
+
+returns-2 : tie.Need-returns-2
+unfolding coordinateRight
+returns-2 c = rw (c .if1 .left)
+
+pub coordinate-right-spec : {M : Type 1} → statement M
+coordinate-right-spec =
+    tie.close
+    (tie.spec returns returns-2)

@@ -1,0 +1,52 @@
+-- `floor::turns::mark_edge` meets its contract: both ends of an edge are vertices of the list. Assumes nothing.
+use native.Mathlib.Nat.{lt-of-lt-of-le}
+use borrow.Author.Tests.{eq-eqb, ne-eqb}
+use denote.Ref.{now}
+use Rattle.floor.specs.Where.{markEdge}
+use Rattle.floor.proofs.Inside.{slot-inside, corner-below, after-below}
+use borrow.Author.Needs.{needs}
+use Rattle.floor.proofs.turns.mark_edge.Statement.{statement}
+use Rattle.floor.proofs.turns.mark_edge.Tie as tie
+
+neighbour-requires : tie.Need-neighbour-requires
+neighbour-requires c κs = (c .before .before .pre .0 .few, slot-inside (c .before .before .args .slots) (now (c .before .before .args .vertices)) (now (c .before .before .args .polygons)) (c .before .before .args .p) (c .before .before .pre .0) (c .before .before .args .i) (c .before .before .pre .1 .0), c .before .before .pre .0 .listed)
+
+corner-requires : tie.Need-corner-requires
+corner-requires c κs = (c .before .before .before .before .pre .0 .few, slot-inside (c .before .before .before .before .args .slots) (now (c .before .before .before .before .args .vertices)) (now (c .before .before .before .before .args .polygons)) (c .before .before .before .before .args .p) (c .before .before .before .before .pre .0) (c .before .before .before .before .args .i) (c .before .before .before .before .pre .1 .0), c .before .before .before .before .pre .0 .listed)
+
+cast-a : tie.Need-cast-a
+cast-a c = search needs
+
+corner-after-requires : tie.Need-corner-after-requires
+corner-after-requires c κs = (c .before .before .before .before .before .pre .0 .few, slot-inside (c .before .before .before .before .before .args .slots) (now (c .before .before .before .before .before .args .vertices)) (now (c .before .before .before .before .before .args .polygons)) (c .before .before .before .before .before .args .p) (c .before .before .before .before .before .pre .0) (c .before .before .before .before .before .args .i) (c .before .before .before .before .before .pre .1 .0), c .before .before .before .before .before .pre .0 .listed)
+
+cast-b : tie.Need-cast-b
+cast-b c = search needs
+
+element-write-marks : tie.Need-element-write-marks
+element-write-marks c = rw (c .before .corner .ensures) (lt-of-lt-of-le (corner-below (c .before .before .before .before .before .before .args .slots) (now (c .before .before .before .before .before .before .args .vertices)) (now (c .before .before .before .before .before .before .args .polygons)) (c .before .before .before .before .before .before .args .p) (c .before .before .before .before .before .before .pre .0) (c .before .before .before .before .before .before .args .i) (c .before .before .before .before .before .before .pre .1 .0)) (c .before .before .before .before .before .before .pre .1 .1))
+
+element-write-marks-2 : tie.Need-element-write-marks-2
+element-write-marks-2 c = rw (c .corner-after .ensures) (lt-of-lt-of-le (after-below (c .before .before .before .before .before .before .args .slots) (now (c .before .before .before .before .before .before .args .vertices)) (now (c .before .before .before .before .before .before .args .polygons)) (c .before .before .before .before .before .before .args .p) (c .before .before .before .before .before .before .pre .0) (c .before .before .before .before .before .before .args .i) (c .before .before .before .before .before .before .pre .1 .0)) (c .before .before .before .before .before .before .pre .1 .1))
+
+returns : tie.Need-returns
+unfolding markEdge
+returns c = rw (← c .before .before .before .neighbour .ensures, eq-eqb _ _ (c .before .before .if1 .taken), ← c .before .corner .ensures, ← c .corner-after .ensures)
+
+returns-2 : tie.Need-returns-2
+unfolding markEdge
+returns-2 c = rw (← c .before .neighbour .ensures, ne-eqb _ _ (c .if1 .left))
+
+pub mark-edge-spec : {M : Type 1} → statement M
+mark-edge-spec =
+    tie.close
+    (tie.spec
+    neighbour-requires
+    corner-requires
+    cast-a
+    corner-after-requires
+    cast-b
+    element-write-marks
+    element-write-marks-2
+    returns
+    returns-2)

@@ -1,0 +1,46 @@
+use Prim.Native.Nat.{_≤_, _-_}
+use borrow.Author.Needs.{needs}
+use mathlib.Core.Path.{_≡_, refl}
+use native.Mathlib.Numerals.{add-one}
+use native.Mathlib.Omega.{arith}
+use Rattle.floor.specs.Where.{markEdges}
+use Rattle.floor.specs.Stored.{polygonAt, floorOf}
+use Rattle.floor.proofs.Inside.{listed-of}
+use Rattle.floor.proofs.turns.mark_edges.Statement.{statement}
+use Rattle.floor.proofs.turns.mark_edges.Tie as tie
+
+abbrev Inv-loop : tie.InvT-loop
+Inv-loop vertices polygons slots p marks₀ n i₀ marks i = (i ≤ n) × (marks ≡ markEdges (polygonAt slots polygons p) i marks₀)
+
+abbrev μ-loop : tie.MeasureT-loop
+μ-loop vertices polygons slots p marks₀ n i₀ marks i = n - i
+
+corner-count-requires : tie.Need-corner-count-requires Inv-loop μ-loop
+corner-count-requires c κs = (c .before .before .pre .0 .few, c .before .before .pre .0 .listed)
+
+loop-holds : tie.Need-loop-holds Inv-loop μ-loop
+unfolding markEdges
+loop-holds c = (omega arith, refl)
+
+mark-edge-requires : tie.Need-mark-edge-requires Inv-loop μ-loop
+mark-edge-requires c κs = (c .before .before .before .before .before .before .pre .0, (rw (c .before .before .before .corner-count .ensures .0) at (c .before .loop-test .taken), c .before .before .before .before .before .before .pre .1))
+
+add-i : tie.Need-add-i Inv-loop μ-loop
+add-i c = omega arith
+
+loop-less : tie.Need-loop-less Inv-loop μ-loop
+loop-less c = omega arith
+
+loop-again : tie.Need-loop-again Inv-loop μ-loop
+unfolding markEdges
+loop-again c = (omega arith, rw (add-one, ← c .before .before .before .loop .inv .1) (c .mark-edge .ensures))
+
+returns : tie.Need-returns Inv-loop μ-loop
+returns c =
+    let e : c .before .loop .i ≡ c .before .before .corner-count .result = omega arith in
+    rw (← c .before .before .corner-count .ensures .0, ← e) (c .before .loop .inv .1)
+
+pub mark-edges-spec : {M : Type 1} → statement M
+mark-edges-spec =
+    tie.close
+    (tie.spec Inv-loop μ-loop corner-count-requires loop-holds mark-edge-requires add-i loop-less loop-again returns)

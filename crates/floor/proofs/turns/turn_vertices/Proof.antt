@@ -1,0 +1,16 @@
+-- `floor::turns::turn_vertices` meets its contract. Assumes nothing.
+use Rattle.floor.specs.Where.{marksOf}
+use Rattle.floor.proofs.Records.{polygon-count}
+use borrow.Author.Needs.{needs}
+use Rattle.floor.proofs.turns.turn_vertices.Statement.{statement}
+use Rattle.floor.proofs.turns.turn_vertices.Tie as tie
+
+mark-polygons-requires : tie.Need-mark-polygons-requires
+mark-polygons-requires c κs = search needs
+
+returns : tie.Need-returns
+unfolding marksOf
+returns c = rw (polygon-count _ _ _) (c .mark-polygons .ensures)
+
+pub turn-vertices-spec : {M : Type 1} → statement M
+turn-vertices-spec = tie.close (tie.spec mark-polygons-requires returns)

@@ -1,0 +1,5 @@
+pub mod Stored
+pub mod Tests
+pub mod Accepted
+pub mod Where
+pub mod Look

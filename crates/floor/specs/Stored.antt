@@ -1,0 +1,87 @@
+-- Document 01, "The floor, as stored": what the lent bytes of a floor and of a question stand for. Only the three readers of records know where a
+-- record's bytes are; everything else speaks of a floor's vertices and polygons. Assumes nothing.
+use Prim.Native.Nat.{ℕ, _+_, _*_, _/_}
+use mathlib.Core.Bool.{Bool, cond}
+use mathlib.Core.List.{List, []}
+use lib.Dec.{ltb, eqb}
+use lib.ListN.{length, getD}
+use Rattle.counts.specs.Counts.{first, table}
+use Rattle.word.specs.Word.{wordAt}
+use Rattle.helpers.specs.declared.point.Point.{Point}
+use Rattle.helpers.specs.declared.point.Segment.{Segment}
+use Rattle.helpers.specs.Point.{zero, pointOf, fromBitsOf, plusOf}
+
+-- "Unused slots hold 0xFFFFFFFF", and it stands for a wall in a neighbour's slot: the number of no vertex and of no polygon.
+abbrev pub unused : ℕ
+unused = 0xFFFFFFFF
+
+pub record Polygon : Type 0 where
+  pub corners : List ℕ
+  pub neighbours : List ℕ
+
+pub record Floor : Type 0 where
+  pub vertices : List Point
+  pub polygons : List Polygon
+
+pub record Question : Type 0 where
+  pub start : Point
+  pub goal : Point
+
+-- ---- records: "of one fixed size, no header, little-endian"
+
+-- "Vertex list: 8-byte records, x then y as f32."
+unfoldable pub vertexAt : List ℕ → ℕ → Point
+vertexAt bytes v = fromBitsOf (wordAt bytes (v * 8)) (wordAt bytes (v * 8 + 4))
+
+-- "Polygon list: 64-byte records, eight u32 corners, then eight u32 neighbours." Eight is the number of slots, here any.
+unfoldable pub polygonAt : ℕ → List ℕ → ℕ → Polygon
+polygonAt slots bytes p = record {
+  corners = table slots (λ i. wordAt bytes (p * (slots * 8) + i * 4));
+  neighbours = table slots (λ i. wordAt bytes (p * (slots * 8) + slots * 4 + i * 4));
+}
+
+-- "A question is 16 bytes: start x, y, goal x, y, .. used as given."
+unfoldable pub questionOf : List ℕ → Question
+questionOf bytes = record { start = fromBitsOf (wordAt bytes 0) (wordAt bytes 4); goal = fromBitsOf (wordAt bytes 8) (wordAt bytes 12) }
+
+-- the floor that two lists of bytes stand for: as many records as are whole
+unfoldable pub floorOf : ℕ → List ℕ → List ℕ → Floor
+floorOf slots vertices polygons = record {
+  vertices = table (length vertices / 8) (vertexAt vertices);
+  polygons = table (length polygons / (slots * 8)) (polygonAt slots polygons);
+}
+
+-- ---- a polygon
+
+unfoldable pub corner : Polygon → ℕ → ℕ
+corner p i = getD (p .corners) i unused
+
+unfoldable pub neighbour : Polygon → ℕ → ℕ
+neighbour p i = getD (p .neighbours) i unused
+
+-- "Unused slots .. stand after the used ones": the corners are those before the first unused one.
+unfoldable pub cornerCount : Polygon → ℕ
+cornerCount p = first (length (p .corners)) (λ i. eqb (corner p i) unused)
+
+-- "Edge i runs from corner i to corner i+1, cyclically": behind the last corner comes the first.
+unfoldable pub cornerAfter : Polygon → ℕ → ℕ
+cornerAfter p i = cond (eqb (corner p (i + 1)) unused) (corner p 0) (corner p (i + 1))
+
+-- ---- looked up in a floor
+
+unfoldable pub polygon : Floor → ℕ → Polygon
+polygon f p = getD (f .polygons) p (record { corners = []; neighbours = [] })
+
+unfoldable pub isListed : Floor → ℕ → Bool
+isListed f p = ltb p (length (f .polygons))
+
+abbrev pub origin : Point
+origin = pointOf zero zero
+
+-- "A vertex is used as its coordinates plus 0.0 .. so −0.0 becomes +0.0."
+unfoldable pub vertex : Floor → ℕ → Point
+vertex f v = plusOf (getD (f .vertices) v origin) origin
+
+-- edge i of polygon p, from corner to corner
+unfoldable pub edge : Floor → ℕ → ℕ → Segment
+edge f p i = (vertex f (corner (polygon f p) i), vertex f (cornerAfter (polygon f p) i))
