@@ -72,22 +72,24 @@ impl Draw {
         let ray = 1 + self.random.below(2);
         let beside = self.few_floats_off_of(PASSED_OVER);
         let (near, root) = (point(input, corner), point(input, 0));
-        if self.random.below(2) == 0 {
-            // The edge along an axis, the ray across it.
+        if self.random.below(4) != 0 {
+            // The ray along an axis, the edge short or long and in any direction: the cut's distance, too, is a few floats off.
             let along = self.random.pick(&[Vec2::new(1.0, 0.0), Vec2::new(0.0, 1.0), Vec2::new(-1.0, 0.0), Vec2::new(0.0, -1.0)]);
             let across = left_of(along);
-            let (length, before, after) = (self.random.pick(&[0.5, 1.0, 1.5, 2.0, 100.0]), self.length(4.0), self.length(4.0));
+            let slope = self.direction();
+            let length = self.random.pick(&[0.0015, 0.003, 0.003, 0.00390625, 1.0, 1.5, 100.0]);
+            let (before, after) = (self.length(4.0), self.length(4.0));
             let towards = self.random.pick(&[1.0, -1.0]);
-            let cut = near + along * beside;
-            put(input, other, near + along * length);
-            put(input, 0, cut + across * (towards * before));
-            put(input, ray, cut + across * (-towards * after));
-        } else {
-            let far = point(input, other);
-            let cut = near + (far - near) * (beside / (far - near).length());
-            let time = self.random.pick(&[1.0, 1.0, 0.5, 2.0, 0.25]);
-            put(input, ray, root + (cut - root) * time);
+            let on_ray = near + along * self.few_floats_off_of(beside * slope.x);
+            put(input, other, near + (along * slope.x + across * slope.y) * length);
+            put(input, 0, on_ray + across * (towards * before));
+            put(input, ray, on_ray + across * (-towards * after));
+            return;
         }
+        let far = point(input, other);
+        let cut = near + (far - near) * (beside / (far - near).length());
+        let time = self.random.pick(&[1.0, 1.0, 0.5, 2.0, 0.25]);
+        put(input, ray, root + (cut - root) * time);
         let word = 2 * ray + self.random.below(2);
         input[word] = self.few_floats_off(input[word]);
     }
