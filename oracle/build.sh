@@ -69,15 +69,36 @@ lay_glam() {
     fi
 }
 
-# The original's crate: the extract's three files as they are, among our stand-ins.
-lay_polyanya() {
-    local crate=$crates/polyanya
+# A crate of the original: the extract's three files as they are, among our stand-ins.
+lay_polyanya() { # NAME
+    local crate=$crates/$1
     cp -r "$here/polyanya" "$crate"
+    sed -i "s/^name = \"polyanya\"$/name = \"$1\"/" "$crate/Cargo.toml"
     mkdir "$crate/extract"
     cp "$folder/lib.rs" "$folder/helpers.rs" "$crate/src/"
     cp "$folder/instance.rs" "$crate/extract/"
     # lib.rs takes its documentation from a README that is not in the extract.
     touch "$crate/README.md"
+}
+
+# The seven lines of edges_between that send a triangle elsewhere first (848 to 854 of the extract's instance.rs).
+triangle_call='        if polygon.vertices.len() == 3 {
+            if let Some(successors) =
+                self.edges_between_triangle(node, polygon, target_layer, left_vertex_index)
+            {
+                return successors;
+            }
+        }'
+
+# A second crate of the original, without those lines: the general walk for triangles too, as document 01 has it.
+lay_general_walk() {
+    lay_polyanya polyanya_general_walk
+    local instance=$crates/polyanya_general_walk/extract/instance.rs call
+    call=$(grep -nF 'self.edges_between_triangle(' "$instance" | cut -d : -f 1)
+    [[ $call =~ ^[0-9]+$ ]] || fail "instance.rs does not call edges_between_triangle exactly once (lines: ${call:-none})"
+    [ "$(sed -n "$((call - 2)),$((call + 4))p" "$instance")" = "$triangle_call" ] ||
+        fail "the lines about line $call of instance.rs are not the call that should be cut"
+    sed -i "$((call - 2)),$((call + 4))d" "$instance"
 }
 
 # Laid anew each time, so that what is built is what is there now.
@@ -90,7 +111,8 @@ lay_workspace() {
     mkdir -p "$crates/.cargo"
     cp -r "$here/Cargo.toml" "$here/rstar" "$here/geo" "$here/harness" "$crates/"
     lay_glam
-    lay_polyanya
+    lay_polyanya polyanya
+    lay_general_walk
     printf '%s\n' '[source.crates-io]' 'replace-with = "debian"' '[source.debian]' \
         'directory = "/usr/share/cargo/registry"' >"$crates/.cargo/config.toml"
 }

@@ -1,7 +1,10 @@
 //! The inputs: a grid over special values, and random ones of several kinds.
 
-use crate::functions::Input;
+use crate::functions::{Input, CORNERS, ENTRY};
 use crate::random::Random;
+
+mod polygons;
+mod wedges;
 
 const SIGN: u32 = 0x8000_0000;
 const ONE: u32 = 0x3F80_0000;
@@ -45,22 +48,37 @@ pub fn special() -> Vec<u32> {
 }
 
 /// The values whose full product is the grid: all special ones while the product stays within millions, else a few.
-pub fn grid_values(floats: usize) -> Vec<u32> {
+pub fn grid_values(words: usize) -> Vec<u32> {
     let half = 0x3F00_0000;
-    match floats {
+    match words {
+        24 => vec![0, ONE, SIGN | ONE],
+        10 => vec![0, ONE, SIGN | ONE, NAN],
         8 => vec![0, SIGN, ONE, SIGN | ONE, EPSILON, NAN],
         6 => vec![0, SIGN, ONE, SIGN | ONE, half, EPSILON, LIMIT, LARGEST, INFINITY, NAN],
         _ => special(),
     }
 }
 
-/// The input of the grid with this number, of `values.len()` to the power `floats`.
-pub fn grid_input(values: &[u32], floats: usize, number: usize) -> Input {
-    let mut input = [0; 8];
+/// How many words the grid fills: all, and of a walk those of a triangle.
+fn grid_words(words: usize) -> usize {
+    words.min(12)
+}
+
+pub fn grid_size(words: usize) -> usize {
+    grid_values(words).len().pow(grid_words(words) as u32)
+}
+
+/// The input of the grid with this number, below its size.
+pub fn grid_input(values: &[u32], words: usize, number: usize) -> Input {
+    let mut input = [0; 24];
     let mut rest = number;
-    for word in &mut input[..floats] {
+    for word in &mut input[..grid_words(words)] {
         *word = values[rest % values.len()];
         rest /= values.len();
+    }
+    if words > grid_words(words) {
+        input[CORNERS] = 3;
+        input[ENTRY] = number as u32 % 3;
     }
     input
 }
@@ -85,14 +103,25 @@ pub enum Kind {
     Same,
     /// A coordinate EPSILON or BOX_EPSILON beside another one, give or take a few floats.
     Beside,
+    /// A root and an interval that it looks through; what it sees lies behind, partly or wholly in view.
+    Wedge,
+    /// A wedge whose two rays are a few floats apart, or none.
+    Thin,
+    /// The root on an end of its interval, or about as far from it as the clip's slack.
+    OnEnd,
+    /// A point as far from another, or from a ray, as the function's own limit, give or take a few floats:
+    /// the clip's 0.01, the landing's 0.002, the 1e-3 about a corner within which the walk passes a cut over.
+    Limit,
 }
 
 pub const RANDOM_KINDS: [Kind; 8] =
     [Kind::Raw, Kind::Floor, Kind::Small, Kind::Tiny, Kind::Scaled, Kind::Near, Kind::Same, Kind::Beside];
 
-/// Draws inputs of one kind for a function of so many floats.
+/// Draws inputs of one kind for a function of so many words.
 pub struct Draw {
     kind: Kind,
+    words: usize,
+    /// How many of the words are floats: for a walk it differs from one to the next.
     floats: usize,
     special: Vec<u32>,
     random: Random,
@@ -100,12 +129,22 @@ pub struct Draw {
 
 impl Draw {
     /// The same inputs for the same function, kind and number.
-    pub fn new(function: usize, floats: usize, kind: Kind, number: usize) -> Draw {
+    pub fn new(function: usize, words: usize, kind: Kind, number: usize) -> Draw {
         let seed = (function as u64) << 48 | (kind as u64) << 40 | number as u64;
-        Draw { kind, floats, special: special(), random: Random::new(seed) }
+        Draw { kind, words, floats: words, special: special(), random: Random::new(seed) }
     }
 
     pub fn input(&mut self) -> Input {
+        match self.words {
+            24 => self.walk(),
+            10 => self.clip(),
+            6 if self.kind == Kind::Limit => self.landing(),
+            _ => self.points(),
+        }
+    }
+
+    /// Of the kinds that any function takes.
+    fn points(&mut self) -> Input {
         match self.kind {
             Kind::Near => self.near(),
             Kind::Same => self.same(),
@@ -115,7 +154,7 @@ impl Draw {
     }
 
     fn words_of(&mut self, kind: Kind) -> Input {
-        let mut input = [0; 8];
+        let mut input = [0; 24];
         for at in 0..self.floats {
             input[at] = self.word_of(kind);
         }

@@ -20,7 +20,7 @@ fn main() -> io::Result<()> {
     for (place, function) in FUNCTIONS.iter().enumerate().filter(|(_, function)| function.number != 0) {
         let mut taken = HashSet::new();
         for kind in [Kind::Special].into_iter().chain(RANDOM_KINDS) {
-            for (input, answer) in chosen(function, Draw::new(place, function.floats, kind, 0), &mut taken) {
+            for (input, answer) in chosen(function, Draw::new(place, function.words, kind, 0), &mut taken) {
                 write_record(&mut out, function.number, input, answer)?;
             }
         }
@@ -29,7 +29,7 @@ fn main() -> io::Result<()> {
 }
 
 /// One of each sort of answer in turn, so that a rare one is there as often as a common one while it lasts.
-fn chosen(function: &Function, mut draw: Draw, taken: &mut HashSet<Input>) -> Vec<Sample> {
+fn chosen(function: &Function<Answer>, mut draw: Draw, taken: &mut HashSet<Input>) -> Vec<Sample> {
     let mut sorts: Vec<(Sort, Vec<Sample>)> = Vec::new();
     let mut seen = HashSet::new();
     for _ in 0..DRAWN {
@@ -53,12 +53,12 @@ fn chosen(function: &Function, mut draw: Draw, taken: &mut HashSet<Input>) -> Ve
 type Sort = (u32, bool);
 
 fn sort_of(answer: Answer) -> Sort {
-    (answer.tag, is_nan(answer.a))
+    (answer.tag, is_nan(answer.words[0]))
 }
 
 fn write_record(out: &mut impl Write, number: u32, input: Input, answer: Answer) -> io::Result<()> {
     out.write_all(&number.to_le_bytes())?;
-    for word in input.into_iter().chain([answer.tag, answer.a, answer.b]) {
+    for word in input[..8].iter().chain([&answer.tag]).chain(&answer.words[..2]) {
         out.write_all(&word.to_le_bytes())?;
     }
     Ok(())

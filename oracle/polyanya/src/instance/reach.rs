@@ -4,12 +4,19 @@
 
 #![allow(missing_docs)]
 
+use std::collections::HashSet;
+
 use glam::Vec2;
 
+use super::SearchInstance;
 use crate::helpers::{self, Vec2Helper};
-use crate::Mesh;
+use crate::{Mesh, Polygon, SearchNode, Vertex};
 
 type Segment = (Vec2, Vec2);
+
+/// The edge's two corners, the interval on it, and its kind: 0 LeftNonObservable, 1 Observable,
+/// 2 RightNonObservable, the order of the enum.
+pub type Successor = ([u32; 2], Segment, u32);
 
 impl Mesh {
     /// 0 Left, 1 Right, 2 Edge: the order of the enum.
@@ -61,5 +68,39 @@ impl Mesh {
     #[inline]
     pub fn line_intersect_segment(line: Segment, segment: Segment) -> Option<Vec2> {
         helpers::line_intersect_segment(line, segment)
+    }
+
+    #[inline]
+    pub fn clip_to_cone(root: Vec2, cone: Segment, segment: Segment) -> Option<Segment> {
+        super::clip_to_cone(root, cone, segment)
+    }
+
+    #[inline]
+    pub fn lands_on(computed: Vec2, vertex: Vec2, root: Vec2) -> bool {
+        super::lands_on(computed, vertex, root)
+    }
+
+    /// What a node sees in a mesh of one polygon that it entered over edge `entry`. The corners are numbered
+    /// from 0. The node has the edge as the polygon that was left has it, so the other way round.
+    pub fn edges_between(corners: &[Vec2], entry: u32, root: Vec2, interval: Segment) -> Vec<Successor> {
+        let count = corners.len() as u32;
+        let vertex = |&coords: &Vec2| Vertex { coords, polygons: Vec::new(), is_corner: false };
+        let polygon = Polygon { vertices: (0..count).collect(), is_one_way: false };
+        let mesh = Mesh::new(corners.iter().map(vertex).collect(), vec![polygon]).expect("a mesh");
+        let nowhere: (Vec2, &[u32]) = (Vec2::ZERO, &[]);
+        let search = SearchInstance::setup(&mesh, nowhere, nowhere, HashSet::new());
+        let node = SearchNode {
+            arena_parent: u32::MAX,
+            root,
+            interval,
+            edge: ((entry + 1) % count, entry),
+            polygon_from: u32::MAX,
+            polygon_to: 0,
+            previous_polygon_layer: 0,
+            distance_start_to_root: 0.0,
+            heuristic: 0.0,
+        };
+        let successors = search.edges_between(&node);
+        successors.iter().map(|successor| (successor.edge, successor.interval, successor.ty as u32)).collect()
     }
 }

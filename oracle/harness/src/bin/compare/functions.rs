@@ -1,17 +1,15 @@
 //! Every function on the grid and on the random inputs, the work shared out in chunks among threads.
 
+use std::fmt::Display;
 use std::sync::atomic::{AtomicUsize, Ordering};
 use std::thread;
 
-use harness::answer::Answer;
-use harness::functions::{Function, Input, FUNCTIONS};
-use harness::inputs::{grid_input, grid_values, Draw, Kind, RANDOM_KINDS};
+use harness::functions::{Function, Input, FUNCTIONS, WALK};
+use harness::inputs::{grid_input, grid_size, grid_values, Draw, Kind};
 
 use crate::{ours, Sum, SHOWN};
 
 const CHUNK: usize = 1 << 16;
-/// With the eight random kinds, 10,485,760 inputs a function.
-const CHUNKS_OF_A_KIND: usize = 20;
 /// Picks from all special values, for the functions whose grid takes only a few of them.
 const SPECIAL_CHUNKS: usize = 16;
 
@@ -21,57 +19,79 @@ enum Chunk {
     Random { kind: Kind, number: usize },
 }
 
-struct Difference {
+struct Difference<A> {
     chunk: usize,
     input: Input,
-    original: Answer,
-    ours: Answer,
+    original: A,
+    ours: A,
 }
 
-#[derive(Default)]
-struct Counts {
+struct Counts<A> {
     grid: usize,
     random: usize,
+    /// Left out, since document 01 parts from the original there.
+    listed: usize,
     differ: usize,
     /// The first few.
-    differences: Vec<Difference>,
+    differences: Vec<Difference<A>>,
+}
+
+impl<A> Counts<A> {
+    fn new() -> Counts<A> {
+        Counts { grid: 0, random: 0, listed: 0, differ: 0, differences: Vec::new() }
+    }
 }
 
 /// Prints a line a function.
 pub fn compare(threads: usize) -> Sum {
     println!("{:<24}{:>12}{:>12}{:>12}", "function", "grid", "random", "differ");
     let mut sum = Sum::default();
-    for (place, function) in FUNCTIONS.iter().enumerate() {
-        let counts = compare_function(place, function, threads);
-        println!("{:<24}{:>12}{:>12}{:>12}", function.name, counts.grid, counts.random, counts.differ);
-        for difference in &counts.differences {
-            print_difference(function, difference);
-        }
-        sum += Sum { compared: counts.grid + counts.random, differ: counts.differ };
+    for (place, function) in FUNCTIONS.iter().enumerate().filter(|(_, function)| wanted(function.name)) {
+        sum += compare_function(place, function, ours::called(function.name), threads);
+    }
+    if wanted(WALK.name) {
+        sum += compare_function(FUNCTIONS.len(), &WALK, ours::walk, threads);
     }
     sum
 }
 
-fn compare_function(place: usize, function: &Function, threads: usize) -> Counts {
+fn wanted(name: &str) -> bool {
+    std::env::var("ONLY").map_or(true, |names| names.split_whitespace().any(|only| only == name))
+}
+
+fn compare_function<A: Display + PartialEq + Send>(place: usize, function: &Function<A>, ours: fn(&Input) -> A, threads: usize) -> Sum {
+    let counts = count(place, function, ours, threads);
+    println!("{:<24}{:>12}{:>12}{:>12}", function.name, counts.grid, counts.random, counts.differ);
+    if counts.listed != 0 {
+        println!("  {} more inputs of {} were left out: a listed difference", counts.listed, function.name);
+    }
+    for difference in &counts.differences {
+        print_difference(function, difference);
+    }
+    Sum { compared: counts.grid + counts.random, differ: counts.differ }
+}
+
+fn count<A: PartialEq + Send>(place: usize, function: &Function<A>, ours: fn(&Input) -> A, threads: usize) -> Counts<A> {
     let chunks = chunks_of(function);
     let next = AtomicUsize::new(0);
     let work = || {
-        let mut counts = Counts::default();
+        let mut counts = Counts::new();
         loop {
             let chunk = next.fetch_add(1, Ordering::Relaxed);
             if chunk >= chunks.len() {
                 return counts;
             }
-            compare_chunk(place, function, chunk, &chunks[chunk], &mut counts);
+            compare_chunk(place, function, ours, chunk, &chunks[chunk], &mut counts);
         }
     };
-    let mut all = Counts::default();
+    let mut all = Counts::new();
     thread::scope(|scope| {
         let workers: Vec<_> = (0..threads).map(|_| scope.spawn(work)).collect();
         for worker in workers {
             let counts = worker.join().expect("a thread ended early");
             all.grid += counts.grid;
             all.random += counts.random;
+            all.listed += counts.listed;
             all.differ += counts.differ;
             all.differences.extend(counts.differences);
         }
@@ -82,22 +102,32 @@ fn compare_function(place: usize, function: &Function, threads: usize) -> Counts
     all
 }
 
-fn chunks_of(function: &Function) -> Vec<Chunk> {
-    let values = grid_values(function.floats).len();
-    let grid = values.pow(function.floats as u32);
+fn chunks_of<A>(function: &Function<A>) -> Vec<Chunk> {
+    let grid = grid_size(function.words);
     let mut chunks: Vec<Chunk> =
         (0..grid).step_by(CHUNK).map(|from| Chunk::Grid { from, to: grid.min(from + CHUNK) }).collect();
-    let specials = if function.floats > 4 { SPECIAL_CHUNKS } else { 0 };
+    let specials = if function.words > 4 { SPECIAL_CHUNKS } else { 0 };
     chunks.extend((0..specials).map(|number| Chunk::Random { kind: Kind::Special, number }));
-    for kind in RANDOM_KINDS {
-        chunks.extend((0..CHUNKS_OF_A_KIND).map(|number| Chunk::Random { kind, number }));
+    for &kind in function.kinds {
+        chunks.extend((0..function.chunks).map(|number| Chunk::Random { kind, number }));
     }
     chunks
 }
 
-fn compare_chunk(place: usize, function: &Function, chunk: usize, inputs: &Chunk, counts: &mut Counts) {
-    let ours = ours::called(function.name);
+fn compare_chunk<A: PartialEq>(
+    place: usize,
+    function: &Function<A>,
+    ours: fn(&Input) -> A,
+    chunk: usize,
+    inputs: &Chunk,
+    counts: &mut Counts<A>,
+) {
+    let mut listed = 0;
     let mut compare_one = |input: Input| {
+        if (function.listed)(&input) {
+            listed += 1;
+            return;
+        }
         let (original, ours) = ((function.original)(&input), ours(&input));
         if original != ours {
             counts.differ += 1;
@@ -108,24 +138,24 @@ fn compare_chunk(place: usize, function: &Function, chunk: usize, inputs: &Chunk
     };
     match *inputs {
         Chunk::Grid { from, to } => {
-            let values = grid_values(function.floats);
-            (from..to).for_each(|number| compare_one(grid_input(&values, function.floats, number)));
-            counts.grid += to - from;
+            let values = grid_values(function.words);
+            (from..to).for_each(|number| compare_one(grid_input(&values, function.words, number)));
+            counts.grid += to - from - listed;
         }
         Chunk::Random { kind, number } => {
-            let mut draw = Draw::new(place, function.floats, kind, number);
+            let mut draw = Draw::new(place, function.words, kind, number);
             (0..CHUNK).for_each(|_| compare_one(draw.input()));
             // Picks from the special values are the rest of the grid.
             let count = if kind == Kind::Special { &mut counts.grid } else { &mut counts.random };
-            *count += CHUNK;
+            *count += CHUNK - listed;
         }
     }
+    counts.listed += listed;
 }
 
-fn print_difference(function: &Function, difference: &Difference) {
-    let words: Vec<String> = difference.input[..function.floats].iter().map(|word| format!("{word:08X}")).collect();
+fn print_difference<A: Display>(function: &Function<A>, difference: &Difference<A>) {
+    let words: Vec<String> = difference.input[..function.words].iter().map(|word| format!("{word:08X}")).collect();
     println!("  {}({})", function.name, words.join(" "));
-    for (whose, answer) in [("Rust", difference.original), ("ours", difference.ours)] {
-        println!("    {whose}: tag {}, words {:08X} {:08X}", answer.tag, answer.a, answer.b);
-    }
+    println!("    Rust: {}", difference.original);
+    println!("    ours: {}", difference.ours);
 }
