@@ -93,9 +93,9 @@ triangle_call='        if polygon.vertices.len() == 3 {
 # A second crate of the original, without those lines: the general walk for triangles too, as document 01 has it.
 lay_general_walk() {
     lay_polyanya polyanya_general_walk
-    local instance=$crates/polyanya_general_walk/extract/instance.rs call
-    call=$(grep -nF 'self.edges_between_triangle(' "$instance" | cut -d : -f 1)
-    [[ $call =~ ^[0-9]+$ ]] || fail "instance.rs does not call edges_between_triangle exactly once (lines: ${call:-none})"
+    local call instance=$crates/polyanya_general_walk/extract/instance.rs
+    call=$(grep -nF 'self.edges_between_triangle(' "$instance" | cut -d : -f 1 || true)
+    [[ $call =~ ^[0-9]+$ ]] || fail "instance.rs does not call edges_between_triangle exactly once (lines:" ${call:-none}")"
     [ "$(sed -n "$((call - 2)),$((call + 4))p" "$instance")" = "$triangle_call" ] ||
         fail "the lines about line $call of instance.rs are not the call that should be cut"
     sed -i "$((call - 2)),$((call + 4))d" "$instance"

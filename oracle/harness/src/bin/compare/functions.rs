@@ -42,21 +42,23 @@ impl<A> Counts<A> {
     }
 }
 
-/// Prints a line a function.
+/// Prints a line a function: each that ONLY names, or all.
 pub fn compare(threads: usize) -> Sum {
+    let names: Vec<&str> = FUNCTIONS.iter().map(|function| function.name).chain([WALK.name]).collect();
+    let only = std::env::var("ONLY").unwrap_or(names.join(" "));
+    let only: Vec<&str> = only.split_whitespace().collect();
+    for name in &only {
+        assert!(names.contains(name), "ONLY: no function {name} is compared; there are {}", names.join(", "));
+    }
     println!("{:<24}{:>12}{:>12}{:>12}", "function", "grid", "random", "differ");
     let mut sum = Sum::default();
-    for (place, function) in FUNCTIONS.iter().enumerate().filter(|(_, function)| wanted(function.name)) {
+    for (place, function) in FUNCTIONS.iter().enumerate().filter(|(_, function)| only.contains(&function.name)) {
         sum += compare_function(place, function, ours::called(function.name), threads);
     }
-    if wanted(WALK.name) {
+    if only.contains(&WALK.name) {
         sum += compare_function(FUNCTIONS.len(), &WALK, ours::walk, threads);
     }
     sum
-}
-
-fn wanted(name: &str) -> bool {
-    std::env::var("ONLY").map_or(true, |names| names.split_whitespace().any(|only| only == name))
 }
 
 fn compare_function<A: Display + PartialEq + Send>(place: usize, function: &Function<A>, ours: fn(&Input) -> A, threads: usize) -> Sum {
