@@ -11,7 +11,7 @@ use Rattle.walk.specs.declared.SuccessorType.{SuccessorType}
 use Rattle.walk.specs.declared.Part.{Part}
 use Rattle.walk.specs.declared.Walked.{Walked}
 use Rattle.walk.specs.Walk.{Walk, walkEdgeOf, walkedOf, partAt}
-use Rattle.walk.proofs.Laws.{one-to-three, count-is-their-number, kind-is-the-walk's, part-is-at-its-place}
+use Rattle.walk.proofs.Laws.{count-is-their-number, count-is-one-to-three, kind-is-the-walk's, part-is-at-its-place}
 use Rattle.geometry_c.specs.declared.walk_edge.Asked.{Asked}
 use Rattle.geometry_c.specs.declared.walk_edge.Asked.the-variants.{Kind}
 use Rattle.geometry_c.specs.Walk.{kindNumber, partWords, partsWritten, wordsOf, walkNumber, walkWritten}
@@ -31,7 +31,7 @@ module _ (root : Point) (interval edge : Segment) (kind : SuccessorType) {walked
   as-many = rw gave (count-is-their-number root interval edge kind)
 
   pub at-most-three : walked .count ≤ 3
-  at-most-three = omega (arith, as-many, one-to-three root interval edge kind)
+  at-most-three = rw gave (count-is-one-to-three root interval edge kind .1)
 
   module _ {asked : Asked} (is : asked ≡ Kind kind) where
     pub number-of-parts : walked .count ≡ walkNumber root interval edge asked

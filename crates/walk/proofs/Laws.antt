@@ -134,6 +134,9 @@ module _ (root : Point) (interval edge : Segment) (kind : SuccessorType) where
   pub count-is-their-number : (walkedOf walk) .count ≡ length (walk .parts)
   count-is-their-number = held-count (walk .parts) (walk .kind) (one-to-three root interval edge kind .1)
 
+  pub count-is-one-to-three : (1 ≤ (walkedOf walk) .count) × ((walkedOf walk) .count ≤ 3)
+  count-is-one-to-three = omega (arith, count-is-their-number, one-to-three root interval edge kind)
+
   pub array-is-of-three : length ((walkedOf walk) .parts) ≡ 3
   array-is-of-three = held-three (walk .parts) (walk .kind) (one-to-three root interval edge kind .0)
 
@@ -176,9 +179,10 @@ pub record VisitsTheOthersOnce (n entry : ℕ) (visited : List ℕ) : Type 0 whe
   pub none-twice : (j k : ℕ) → j < k → k < length visited → getD visited j 0 ≡ getD visited k 0 → ⊥
 
 module _ (n entry : ℕ) (listed : entry < n) where
-  below : (k : ℕ) → k < n - 1 → (afterEntry n entry k < n) × (afterEntry n entry k ≡ entry → ⊥)
+  -- an edge after the entry edge is listed and is not the entry edge
+  pub another : (k : ℕ) → k < n - 1 → (afterEntry n entry k < n) × (afterEntry n entry k ≡ entry → ⊥)
   unfolding afterEntry
-  below k h = ⊎-elim (λ c. omega arith) (λ c. omega arith) (wrapped-cases n (entry + 1 + k))
+  another k h = ⊎-elim (λ c. omega arith) (λ c. omega arith) (wrapped-cases n (entry + 1 + k))
 
   apart-from : (j k : ℕ) → j < k → k < n - 1 → afterEntry n entry j ≡ afterEntry n entry k → ⊥
   unfolding afterEntry
@@ -215,7 +219,7 @@ module _ (n entry : ℕ) (listed : entry < n) where
       record {
         begins-after = λ h. place 0 (omega arith) ∙ next-one h;
         as-many = e;
-        others-only = λ k h. let l : k < n - 1 = omega arith in rw (place k l) (below k l);
+        others-only = λ k h. let l : k < n - 1 = omega arith in rw (place k l) (another k l);
         each = λ i h other. let r = reached i h other in (r .0, omega (arith, r .1), place (r .0) (r .1) ∙ r .2);
         none-twice = λ j k l h same.
             let m : k < n - 1 = omega arith in

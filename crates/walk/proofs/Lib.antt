@@ -1,7 +1,8 @@
--- What belongs to no one function: the arms that a match leads to, and the parts that a cut makes.
-pub mod Arms
-pub mod Cuts
-pub mod Wrap
+-- What belongs to no one function. Laws is the one to read, Turns what a caller's loop cites, Examples has walks that antt computes; Arms, Cuts and Wrap serve
+-- the proofs of the functions.
 pub mod Laws
 pub mod Turns
 pub mod Examples
+pub mod Arms
+pub mod Cuts
+pub mod Wrap

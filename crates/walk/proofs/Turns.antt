@@ -10,10 +10,12 @@ use borrow.Author.Tests.{leb-true, leb-false, le-leb, lt-leb}
 use lib.ListN.{length}
 use Rattle.helpers.specs.declared.point.Point.{Point}
 use Rattle.helpers.specs.declared.point.Segment.{Segment}
+use Rattle.walk.specs.declared.Walked.{Walked}
 use Rattle.walk.specs.declared.round.Round.{Round}
-use Rattle.walk.specs.Walk.{Walk, walkedOf, partsOf}
-use Rattle.walk.specs.Round.{Successor, successorsOn, edgesFrom, others, walkOf, successorsOf, beginOf, isOverOf, edgeNumberOf, nextOf, turnOf, yieldsOf, turnedOf, roundAfter, yieldedAfter, leftOf}
-use Rattle.walk.proofs.Laws.{array-holds-the-parts, kind-is-the-walk's}
+use Rattle.walk.specs.Walk.{walkedOf, walkEdgeOf, partsOf}
+use Rattle.walk.specs.Round.{edgeOf, successorsOn, edgesFrom, others, walkOf, successorsOf}
+use Rattle.walk.specs.Turns.{beginOf, isOverOf, edgeNumberOf, nextOf, turnOf, yieldsOf, turnedOf, roundAfter, yieldedAfter, leftOf}
+use Rattle.walk.proofs.Laws.{array-holds-the-parts, count-is-their-number, kind-is-the-walk's, another}
 
 module _ (root : Point) (interval : Segment) (corners : List Point) where
   -- ---- what is left
@@ -96,13 +98,43 @@ module _ (root : Point) (interval : Segment) (corners : List Point) where
         let none : leftOf root interval corners last ≡ [] = left-when-over last (over-after (length corners - 1) (omega arith)) in
         sym (append-nil _) ∙ (rw none at (yielded-and-left (length corners - 1) (omega arith)))
 
-  -- ---- what the code's values say of a turn
+  -- ---- a turn by the code's own values
 
-  module _ (round : Round) where
-    pub turn-by-kind : nextOf round ((walkedOf (turnOf root interval corners round)) .kind) ≡ turnedOf root interval corners round
-    unfolding turnedOf turnOf
-    turn-by-kind = ap (nextOf round) (kind-is-the-walk's _ _ _ _)
+  -- the number that `edge` gives is that of another edge of the polygon
+  module _ (round : Round) (listed : round .entry < round .count) (on : isOverOf round ≡ false) where
+    pub edge-is-another : (edgeNumberOf round < round .count) × (edgeNumberOf round ≡ round .entry → ⊥)
+    unfolding edgeNumberOf isOverOf
+    edge-is-another =
+        let h = leb-false (round .count) (round .taken + 1) on in
+        another (round .count) (round .entry) listed (round .taken) (omega arith)
 
-    pub turn-by-parts : successorsOn (edgeNumberOf round) (partsOf (walkedOf (turnOf root interval corners round))) ≡ yieldsOf root interval corners round
+  -- i is what `edge` gives, edge the segment that a caller finds for it, walked what `walk_edge` gives, after what `next` gives
+  module _ (round after : Round) (i : ℕ) (edge : Segment) (walked : Walked) (at : i ≡ edgeNumberOf round) (its : edge ≡ edgeOf corners i) (gave : walked ≡ walkedOf (walkEdgeOf root interval edge (round .kind))) (goes : after ≡ nextOf round (walked .kind)) where
+    walked-turn : walked ≡ walkedOf (turnOf root interval corners round)
+    unfolding turnOf
+    walked-turn = rw (← at, ← its) gave
+
+    pub turn-counts : walked .count ≡ length (partsOf walked)
+    unfolding turnOf
+    turn-counts = rw (gave, array-holds-the-parts root interval edge (round .kind)) (count-is-their-number root interval edge (round .kind))
+
+    pub turn-yields : yieldsOf root interval corners round ≡ successorsOn i (partsOf walked)
     unfolding yieldsOf turnOf
-    turn-by-parts = ap (successorsOn (edgeNumberOf round)) (array-holds-the-parts _ _ _ _)
+    turn-yields = rw (← at, ← its, gave, array-holds-the-parts root interval edge (round .kind))
+
+    pub turn-goes-on : after ≡ turnedOf root interval corners round
+    unfolding turnedOf turnOf
+    turn-goes-on = rw (← at, ← its, goes, gave, kind-is-the-walk's root interval edge (round .kind))
+
+    -- what is left is what this turn yields and what is left after it
+    pub turn-leaves : isOverOf round ≡ false → leftOf root interval corners round ≡ successorsOn i (partsOf walked) ++ leftOf root interval corners after
+    turn-leaves on = rw (← turn-yields, turn-goes-on) (left-by-turn round on)
+
+    -- what was yielded after k turns, and this turn's, were yielded after one more
+    pub turn-adds : (entry k : ℕ) → round ≡ roundAfter root interval corners entry k → yieldedAfter root interval corners entry (suc k) ≡ yieldedAfter root interval corners entry k ++ successorsOn i (partsOf walked)
+    unfolding yieldedAfter
+    turn-adds entry k is = rw (← is, ← turn-yields)
+
+    pub turn-is-one-more : (entry k : ℕ) → round ≡ roundAfter root interval corners entry k → after ≡ roundAfter root interval corners entry (suc k)
+    unfolding roundAfter
+    turn-is-one-more entry k is = rw (← is) turn-goes-on

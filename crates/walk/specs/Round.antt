@@ -1,19 +1,18 @@
 -- Round a polygon, as document 01 has it under "The walk": each edge but the entry edge in its turn, the kind going from one to the next. Rests on specs/Walk.
 -- Assumes nothing.
-use Prim.Native.Nat.{ℕ, zero, suc, _+_, _-_, _<_}
-use mathlib.Core.Bool.{Bool, cond}
+use Prim.Native.Nat.{ℕ, zero, suc, _+_, _-_}
+use mathlib.Core.Bool.{cond}
 use mathlib.Core.List.{List, [], _∷_, _++_, map}
-use lib.Dec.{ltb, leb}
+use lib.Dec.{ltb}
 use lib.Ieee.{nan}
-use lib.ListN.{length, getD, drop}
+use lib.ListN.{length, getD}
 use Rattle.helpers.specs.declared.point.Point.{Point}
 use Rattle.helpers.specs.declared.point.Segment.{Segment}
 use Rattle.helpers.specs.Point.{pointOf}
 use Rattle.walk.specs.declared.SuccessorType.{SuccessorType}
 use Rattle.walk.specs.declared.SuccessorType.the-variants.{RightNonObservable}
 use Rattle.walk.specs.declared.Part.{Part}
-use Rattle.walk.specs.declared.round.Round.{Round}
-use Rattle.walk.specs.Walk.{Walk, walkEdgeOf}
+use Rattle.walk.specs.Walk.{walkEdgeOf}
 
 -- ---- edges
 
@@ -21,6 +20,7 @@ use Rattle.walk.specs.Walk.{Walk, walkEdgeOf}
 unfoldable pub wrapped : ℕ → ℕ → ℕ
 wrapped n i = cond (ltb i n) i (i - n)
 
+-- a corner, and NaN for one that is not there
 unfoldable pub cornerOf : List Point → ℕ → Point
 cornerOf corners i = getD corners i (pointOf nan nan)
 
@@ -61,42 +61,3 @@ walkOf root interval corners kind (i ∷ is) =
 -- let mut ty = SuccessorType::RightNonObservable;
 unfoldable pub successorsOf : Point → Segment → List Point → ℕ → List Successor
 successorsOf root interval corners entry = walkOf root interval corners RightNonObservable (others (length corners) entry)
-
--- ---- the walk in turns
-
-unfoldable pub beginOf : ℕ → ℕ → Round
-beginOf entry count = record { entry = entry; count = count; taken = 0; kind = RightNonObservable }
-
-unfoldable pub isOverOf : Round → Bool
-isOverOf round = leb (round .count) (round .taken + 1)
-
-unfoldable pub edgeNumberOf : Round → ℕ
-edgeNumberOf round = afterEntry (round .count) (round .entry) (round .taken)
-
-unfoldable pub nextOf : Round → SuccessorType → Round
-nextOf round kind = record { entry = round .entry; count = round .count; taken = round .taken + 1; kind = kind }
-
--- a turn: the edge that is walked, what it yields, and the round after it
-unfoldable pub turnOf : Point → Segment → List Point → Round → Walk
-turnOf root interval corners round = walkEdgeOf root interval (edgeOf corners (edgeNumberOf round)) (round .kind)
-
-unfoldable pub yieldsOf : Point → Segment → List Point → Round → List Successor
-yieldsOf root interval corners round = successorsOn (edgeNumberOf round) ((turnOf root interval corners round) .parts)
-
-unfoldable pub turnedOf : Point → Segment → List Point → Round → Round
-turnedOf root interval corners round = nextOf round ((turnOf root interval corners round) .kind)
-
--- after k turns: the round, and what was yielded
-unfoldable pub roundAfter : Point → Segment → List Point → ℕ → ℕ → Round
-roundAfter root interval corners entry zero = beginOf entry (length corners)
-roundAfter root interval corners entry (suc k) = turnedOf root interval corners (roundAfter root interval corners entry k)
-
-unfoldable pub yieldedAfter : Point → Segment → List Point → ℕ → ℕ → List Successor
-yieldedAfter root interval corners entry zero = []
-yieldedAfter root interval corners entry (suc k) =
-    yieldedAfter root interval corners entry k ++ yieldsOf root interval corners (roundAfter root interval corners entry k)
-
--- what a round has still to yield
-unfoldable pub leftOf : Point → Segment → List Point → Round → List Successor
-leftOf root interval corners round =
-    walkOf root interval corners (round .kind) (edgesFrom (round .count) (round .entry) (round .taken) (round .count - 1 - round .taken))

@@ -1,7 +1,7 @@
 -- One edge of the walk, as document 01 has it under "The walk" and edges_between of polyanya's src/instance.rs has it in its lines, which stand above what
 -- renders them. Rests on the definitions of `helpers`. Assumes nothing.
--- The kinds are the Rust's `SuccessorType`, a part is its `Successor` without the edge. A name with `Of` behind it is what the contract of the function
--- of that name says.
+-- The kinds are the Rust's `SuccessorType`, a part is its `Successor` without the edge. The contract of a function cites the definition of its name with `Of`
+-- behind it; `nowhereOf` is for `Cut::nowhere`, `partOf` for `Part::new`.
 use Prim.Native.Nat.{ℕ}
 use mathlib.Core.Bool.{Bool, cond, _&&_}
 use mathlib.Core.List.{List, [], _∷_, _++_}
@@ -39,8 +39,8 @@ unfoldable pub seenIfOf : Bool → SuccessorType → SuccessorType
 seenIfOf past kind = cond past Observable kind
 
 -- no cut, and this kind
-unfoldable pub uncutOf : SuccessorType → Cut
-uncutOf kind = record { at = Nowhere; kind = kind }
+unfoldable pub nowhereOf : SuccessorType → Cut
+nowhereOf kind = record { at = Nowhere; kind = kind }
 
 -- ---- the first cut, by the right ray
 
@@ -68,9 +68,9 @@ unlessRightOf Edge then kind = then
 unfoldable pub firstCutOf : Segment → Segment → SuccessorType → Cut
 firstCutOf right edge kind =
     elim (sideOf (edge .0) right) [
-      | Right ↦ elim (lineIntersectSegmentOf right edge) [ At intersect ↦ firstCrossingOf intersect edge kind | Nowhere ↦ uncutOf kind ]
-      | Left ↦ uncutOf (seenFromRightOf kind)
-      | Edge ↦ uncutOf (unlessRightOf (sideOf (edge .1) right) Observable kind)
+      | Right ↦ elim (lineIntersectSegmentOf right edge) [ At intersect ↦ firstCrossingOf intersect edge kind | Nowhere ↦ nowhereOf kind ]
+      | Left ↦ nowhereOf (seenFromRightOf kind)
+      | Edge ↦ nowhereOf (unlessRightOf (sideOf (edge .1) right) Observable kind)
     ]
 
 -- ---- the second cut, by the left ray, on what the first one left of the edge
@@ -82,10 +82,10 @@ secondCutOf left right edge kind =
     elim (sideOf (edge .1) left) [
       | Left ↦ elim (lineIntersectSegmentOf left edge) [
         | At intersect ↦ record { at = cutIfOf (toldApartOf intersect (edge .1)) intersect; kind = LeftNonObservable }
-        | Nowhere ↦ uncutOf kind
+        | Nowhere ↦ nowhereOf kind
       ]
-      | Edge ↦ uncutOf (unlessRightOf (sideOf (edge .1) right) LeftNonObservable kind)
-      | Right ↦ uncutOf kind
+      | Edge ↦ nowhereOf (unlessRightOf (sideOf (edge .1) right) LeftNonObservable kind)
+      | Right ↦ nowhereOf kind
     ]
 
 -- ---- the parts of an edge

@@ -1,7 +1,7 @@
 // Where a node's two rays cut an edge, and how what comes behind a cut is seen.
 
 ghost use mathlib.Core.Path.{_≡_};
-ghost use Rattle.walk.specs.Walk.{toldApartOf, apartFromBothOf, cutIfOf, seenIfOf, uncutOf, firstCrossingOf, seenFromRightOf, unlessRightOf, firstCutOf, secondCutOf};
+ghost use Rattle.walk.specs.Walk.{toldApartOf, apartFromBothOf, cutIfOf, seenIfOf, nowhereOf, firstCrossingOf, seenFromRightOf, unlessRightOf, firstCutOf, secondCutOf};
 use crate::SuccessorType;
 use helpers::Crossing;
 use helpers::EdgeSide;
@@ -16,7 +16,7 @@ pub struct Cut {
 
 impl Cut {
     fn nowhere(kind: SuccessorType) -> Cut
-        ensures { λ r. ⌜ r ≡ uncutOf kind ⌝ }
+        ensures { λ r. ⌜ r ≡ nowhereOf kind ⌝ }
     {
         Cut {
             at: Crossing::Nowhere,

@@ -1,11 +1,11 @@
 -- `walk::cut::Cut::nowhere` meets its contract: its code says what its definition says. Assumes nothing.
 use mathlib.Core.Path.{refl}
-use Rattle.walk.specs.Walk.{uncutOf}
+use Rattle.walk.specs.Walk.{nowhereOf}
 use Rattle.walk.proofs.cut.Cut.nowhere.Statement.{statement}
 use Rattle.walk.proofs.cut.Cut.nowhere.Tie as tie
 
 returns : tie.Need-returns
-unfolding uncutOf
+unfolding nowhereOf
 returns c = refl
 
 pub nowhere-spec : {M : Type 1} → statement M

@@ -1,6 +1,6 @@
 -- `walk::round::Round::begin` meets its contract: its code says what its definition says. Assumes nothing.
 use mathlib.Core.Path.{refl}
-use Rattle.walk.specs.Round.{beginOf}
+use Rattle.walk.specs.Turns.{beginOf}
 use Rattle.walk.proofs.round.Round.begin.Statement.{statement}
 use Rattle.walk.proofs.round.Round.begin.Tie as tie
 

@@ -1,7 +1,7 @@
 -- `walk::round::Round::edge` meets its contract: an edge number is taken as it is up to the last edge, and from the first on behind it. Assumes nothing.
 use borrow.Author.Needs.{needs}
 use Rattle.walk.proofs.Wrap.{up-to-the-last, from-the-first}
-use Rattle.walk.specs.Round.{edgeNumberOf}
+use Rattle.walk.specs.Turns.{edgeNumberOf}
 use Rattle.walk.proofs.round.Round.edge.Statement.{statement}
 use Rattle.walk.proofs.round.Round.edge.Tie as tie
 

@@ -1,7 +1,7 @@
 -- `walk::round::Round::is_over` meets its contract: its code says what its definition says. Assumes nothing.
 use borrow.Author.Needs.{needs}
 use mathlib.Core.Path.{refl}
-use Rattle.walk.specs.Round.{isOverOf}
+use Rattle.walk.specs.Turns.{isOverOf}
 use Rattle.walk.proofs.round.Round.is_over.Statement.{statement}
 use Rattle.walk.proofs.round.Round.is_over.Tie as tie
 

@@ -1,7 +1,7 @@
 -- `walk::round::Round::next` meets its contract: its code says what its definition says. Assumes nothing.
 use borrow.Author.Needs.{needs}
 use mathlib.Core.Path.{refl}
-use Rattle.walk.specs.Round.{nextOf}
+use Rattle.walk.specs.Turns.{nextOf}
 use Rattle.walk.proofs.round.Round.next.Statement.{statement}
 use Rattle.walk.proofs.round.Round.next.Tie as tie
 
