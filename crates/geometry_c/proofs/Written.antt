@@ -1,10 +1,9 @@
 -- What an edge's walk has written into words, by the array and the count that `walk_edge` gives. Rests on the laws of `walk`. Assumes nothing.
-use Prim.Native.Nat.{ℕ, zero, suc, _*_, _≤_, _<_}
-use mathlib.Core.Path.{_≡_, refl, sym, ap, _∙_}
+use Prim.Native.Nat.{ℕ, zero, suc, _≤_, _<_}
+use mathlib.Core.Path.{_≡_, refl, ap}
 use mathlib.Core.List.{List}
 use native.Mathlib.Omega.{arith}
 use lib.ListN.{length, set}
-use lib.Seq.{sets}
 use Rattle.helpers.specs.declared.point.Point.{Point}
 use Rattle.helpers.specs.declared.point.Segment.{Segment}
 use Rattle.walk.specs.declared.SuccessorType.{SuccessorType}
@@ -14,7 +13,7 @@ use Rattle.walk.specs.Walk.{Walk, walkEdgeOf, walkedOf, partAt}
 use Rattle.walk.proofs.Laws.{count-is-their-number, count-is-one-to-three, kind-is-the-walk's, part-is-at-its-place}
 use Rattle.geometry_c.specs.declared.walk_edge.Asked.{Asked}
 use Rattle.geometry_c.specs.declared.walk_edge.Asked.the-variants.{Kind}
-use Rattle.geometry_c.specs.Walk.{kindNumber, partWords, partsWritten, wordsOf, walkNumber, walkWritten}
+use Rattle.geometry_c.specs.Walk.{kindNumber, partsWritten, wordsOf, walkNumber, walkWritten}
 
 -- lists that agree up to k write the same k parts
 same-written : (ps qs : List Part) (before : List ℕ) (k : ℕ) → ((i : ℕ) → i < k → partAt ps i ≡ partAt qs i) → partsWritten ps k before ≡ partsWritten qs k before

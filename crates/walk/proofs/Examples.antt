@@ -1,9 +1,8 @@
 -- Walks that antt computes: an edge in three parts, a cut that is passed over, and kinds that return to seen. Assumes nothing.
 use Prim.Native.Nat.{ℕ}
 use mathlib.Core.Path.{_≡_, refl}
-use mathlib.Core.List.{List, [], _∷_}
+use mathlib.Core.List.{[], _∷_}
 use lib.Ieee.{add, sub, mul, div, neg, lt, le, ofBits, odd, size, round}
-use Rattle.helpers.specs.declared.point.Point.{Point}
 use Rattle.helpers.specs.declared.point.Segment.{Segment}
 use Rattle.helpers.specs.Point.{pointOf, fromBitsOf, minusOf, plusOf, timesOf, dotOf, perpDotOf, distanceSquaredOf}
 use Rattle.helpers.specs.Helpers.{magnitudeOf, sideOf, intersectionTimeOf, crossesOf, clampOf, lineIntersectSegmentOf}

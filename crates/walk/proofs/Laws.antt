@@ -4,7 +4,7 @@ use Prim.Native.Nat.{ℕ, zero, suc, _+_, _-_, _*_, _≤_, _<_}
 use mathlib.Core.Path.{_≡_, refl, sym, ap, _∙_}
 use mathlib.Core.Bool.{Bool, true, false}
 use mathlib.Core.List.{List, [], _∷_, _++_}
-use mathlib.Core.Logic.{_⊎_, inl, inr, ⊎-elim}
+use mathlib.Core.Logic.{⊎-elim}
 use native.Mathlib.Omega.{arith}
 use borrow.Author.Tests.{ltb-true, ltb-false}
 use lib.Dec.{ltb}
@@ -17,7 +17,6 @@ use Rattle.helpers.specs.declared.Crossing.the-variants.{At, Nowhere}
 use Rattle.walk.specs.declared.SuccessorType.{SuccessorType}
 use Rattle.walk.specs.declared.SuccessorType.the-variants.{RightNonObservable}
 use Rattle.walk.specs.declared.Part.{Part}
-use Rattle.walk.specs.declared.Walked.{Walked}
 use Rattle.walk.specs.declared.cut.Cut.{Cut}
 use Rattle.walk.specs.Walk.{Walk, firstCutOf, secondCutOf, partOf, before, behind, cutOr, restOf, walkEdgeOf, oneOf, twoOf, threeOf, held, walkedOf, partsOf, noPart, partAt}
 use Rattle.walk.specs.Round.{wrapped, edgeOf, afterEntry, edgesFrom, others, walkOf, successorsOf}

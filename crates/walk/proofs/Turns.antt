@@ -2,8 +2,8 @@
 -- what was yielded after k turns, and what is left. Rests on specs/Round. Assumes nothing.
 use Prim.Native.Nat.{ℕ, zero, suc, _+_, _-_, _≤_, _<_}
 use mathlib.Core.Path.{_≡_, refl, sym, ap, _∙_}
-use mathlib.Core.Bool.{Bool, true, false}
-use mathlib.Core.List.{List, [], _∷_, _++_, append-assoc, append-nil}
+use mathlib.Core.Bool.{true, false}
+use mathlib.Core.List.{List, [], _++_, append-assoc, append-nil}
 use native.Mathlib.Numerals.{add-one}
 use native.Mathlib.Omega.{arith}
 use borrow.Author.Tests.{leb-true, leb-false, le-leb, lt-leb}
@@ -110,12 +110,7 @@ module _ (root : Point) (interval : Segment) (corners : List Point) where
 
   -- i is what `edge` gives, edge the segment that a caller finds for it, walked what `walk_edge` gives, after what `next` gives
   module _ (round after : Round) (i : ℕ) (edge : Segment) (walked : Walked) (at : i ≡ edgeNumberOf round) (its : edge ≡ edgeOf corners i) (gave : walked ≡ walkedOf (walkEdgeOf root interval edge (round .kind))) (goes : after ≡ nextOf round (walked .kind)) where
-    walked-turn : walked ≡ walkedOf (turnOf root interval corners round)
-    unfolding turnOf
-    walked-turn = rw (← at, ← its) gave
-
     pub turn-counts : walked .count ≡ length (partsOf walked)
-    unfolding turnOf
     turn-counts = rw (gave, array-holds-the-parts root interval edge (round .kind)) (count-is-their-number root interval edge (round .kind))
 
     pub turn-yields : yieldsOf root interval corners round ≡ successorsOn i (partsOf walked)
