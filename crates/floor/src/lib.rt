@@ -16,9 +16,9 @@ use helpers::EdgeSide;
 use helpers::Point;
 use helpers::Segment;
 
-mod stored;
+pub mod stored;
 mod tests;
-mod turns;
+pub mod turns;
 
 // How many corners a polygon's record has room for.
 pub const SLOTS: usize = 8;
