@@ -9,9 +9,9 @@ use Rattle.helpers.specs.declared.point.Segment.{Segment}
 use Rattle.helpers.specs.Point.{pointOf, fromBitsOf, plusOf, sameOf}
 use Rattle.walk.specs.declared.SuccessorType.the-variants.{Observable}
 use Rattle.floor.specs.Stored.{Floor, Polygon, unused, corner, neighbour, cornerCount, cornerAfter, polygon, vertex, edge}
-use Rattle.steps.specs.declared.Step.{Step}
+use Rattle.route.specs.declared.Step.{Step}
 use Rattle.steps.specs.declared.Node.{Node}
-use Rattle.steps.specs.Steps.{isFinite, isInterval, stepIf, joined, seedStep, seedSteps, stepsFrom, seedNode, enter, rootAfter}
+use Rattle.steps.specs.Steps.{isFinite, isInterval, wholeEdge, wholeEdges, candidates, isAllowed, rootAfter, clipped, stepOf, stepsOver, stepsFrom, seedNode, enter}
 
 abbrev 0' : ℕ
 0' = 0x00000000
@@ -45,7 +45,7 @@ pub seed : Node
 seed = seedNode (fromBitsOf 1' 1') 0
 
 pub one-step : stepsFrom whole 1 seed ≡ only ∷ []
-unfolding whole only seed stepsFrom seedNode seedSteps seedStep joined stepIf isInterval isFinite sameOf polygon vertex edge corner neighbour cornerCount cornerAfter first table pointOf fromBitsOf plusOf add neg lt le eq ofBits odd size
+unfolding whole only seed stepsFrom seedNode candidates wholeEdges wholeEdge stepsOver stepOf isAllowed clipped isInterval isFinite sameOf polygon vertex edge corner neighbour cornerCount cornerAfter first table pointOf fromBitsOf plusOf add neg lt le eq ofBits odd size
 one-step = refl
 
 pub none-out-of-the-goal : stepsFrom whole 1 (enter whole seed only) ≡ []

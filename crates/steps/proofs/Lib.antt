@@ -1,1 +1,5 @@
+pub mod Rounds
+pub mod Corners
+pub mod Left
+pub mod Seen
 pub mod Examples

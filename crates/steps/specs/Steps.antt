@@ -1,14 +1,13 @@
 -- Document 01, "A permitted step": which steps lead out of a node, in order. Rests on the floor, the walk and the clip. Assumes nothing.
-use Prim.Native.Nat.{ℕ}
+use Prim.Native.Nat.{ℕ, _+_}
 use mathlib.Core.Bool.{Bool, true, false, not, _&&_, cond}
-use mathlib.Core.List.{List, [], _∷_, _++_}
+use mathlib.Core.List.{List, [], _∷_}
 use lib.Dec.{eqb}
-use lib.ListN.{length}
-use lib.Ieee.{Float, binary32, ofBits, neg, le}
+use lib.Ieee.{Float, binary32, ofBits, neg, le, add}
 use Rattle.counts.specs.Counts.{first, table}
 use Rattle.helpers.specs.declared.point.Point.{Point}
 use Rattle.helpers.specs.declared.point.Segment.{Segment}
-use Rattle.helpers.specs.Point.{sameOf}
+use Rattle.helpers.specs.Point.{zero, sameOf, distanceOf}
 use Rattle.cone.specs.declared.Clipped.{Clipped}
 use Rattle.cone.specs.declared.Clipped.the-variants.{Seen, Nothing}
 use Rattle.cone.specs.Cone.{clipToConeOf}
@@ -16,62 +15,54 @@ use Rattle.cone.specs.Landing.{landsOnOf}
 use Rattle.walk.specs.declared.SuccessorType.{SuccessorType}
 use Rattle.walk.specs.declared.SuccessorType.the-variants.{LeftNonObservable, Observable, RightNonObservable}
 use Rattle.walk.specs.Round.{Successor, successorsOf}
-use Rattle.floor.specs.Stored.{Floor, unused, corner, neighbour, cornerCount, cornerAfter, polygon, vertex, edge}
+use Rattle.floor.specs.Stored.{Floor, Polygon, unused, corner, neighbour, cornerCount, cornerAfter, polygon, vertex, edge}
 use Rattle.floor.specs.Where.{isTurn}
-use Rattle.steps.specs.declared.Step.{Step}
+use Rattle.route.specs.declared.Step.{Step}
 use Rattle.steps.specs.declared.Node.{Node}
+use Rattle.steps.specs.declared.view.Permitted.{Permitted}
+use Rattle.steps.specs.declared.view.Permitted.the-variants.{Yes, No}
 
--- the number of each kind in the route file: "Observable is kind 2, .. RightNonObservable is kind 3, LeftNonObservable kind 4"
-unfoldable pub kindNumber : SuccessorType → ℕ
-kindNumber Observable = 2
-kindNumber RightNonObservable = 3
-kindNumber LeftNonObservable = 4
-
--- ---- one step or none
+-- ---- intervals
 
 -- the largest finite f32
 abbrev pub largest : Float
 largest = ofBits binary32 0x7F7FFFFF
 
 unfoldable pub isFinite : Point → Bool
-isFinite p = (le (neg largest) (p .x) && le (p .x) largest) && (le (neg largest) (p .y) && le (p .y) largest)
+isFinite p = le (neg largest) (p .x) && (le (p .x) largest && (le (neg largest) (p .y) && le (p .y) largest))
 
 -- "Equal ends (==) or a non-finite end is no step."
 unfoldable pub isInterval : Segment → Bool
-isInterval s = not (sameOf (s .0) (s .1)) && (isFinite (s .0) && isFinite (s .1))
+isInterval s = cond (sameOf (s .0) (s .1)) false (isFinite (s .0) && isFinite (s .1))
 
--- the step, if it is one
-unfoldable pub stepIf : Bool → Step → List Step
-stepIf allowed step = cond (allowed && isInterval (step .interval)) (step ∷ []) []
+-- ---- which parts of which edges there are to step over
 
--- all of them, in order
-unfoldable pub joined : List (List Step) → List Step
-joined [] = []
-joined (steps ∷ rest) = steps ++ joined rest
+-- "From the seed: each non-wall edge in order, whole, kind 2"
+unfoldable pub wholeEdge : Floor → Node → ℕ → Successor
+wholeEdge f node i = record { edge = i; part = record { interval = edge f (node .polygon) i; kind = Observable } }
 
--- ---- from the seed
+unfoldable pub wholeEdges : Floor → Node → List Successor
+wholeEdges f node = table (cornerCount (polygon f (node .polygon))) (wholeEdge f node)
 
--- "each non-wall edge in order, whole, kind 2"
-unfoldable pub seedStep : Floor → Node → ℕ → List Step
-seedStep f node i =
-    let q = polygon f (node .polygon) in
-    stepIf (not (eqb (neighbour q i) unused))
-    (record { kind = Observable; polygon = neighbour q i; first = corner q i; second = cornerAfter q i; interval = edge f (node .polygon) i })
-
-unfoldable pub seedSteps : Floor → Node → List Step
-seedSteps f node = joined (table (cornerCount (polygon f (node .polygon))) (seedStep f node))
-
--- ---- "Otherwise, from a node, each successor in order whose edge has a neighbour"
+-- the place of the corner v among the first n, and n where it is none of them
+unfoldable pub placeOf : Polygon → ℕ → ℕ → ℕ
+placeOf q n v = first n (λ i. eqb (corner q i) v)
 
 -- the entry edge, by its place in the polygon that was entered: it begins at the edge's second vertex
 unfoldable pub entryOf : Floor → Node → ℕ
-entryOf f node = first (cornerCount (polygon f (node .polygon))) (λ i. eqb (corner (polygon f (node .polygon)) i) (node .second))
+entryOf f node = placeOf (polygon f (node .polygon)) (cornerCount (polygon f (node .polygon))) (node .second)
 
 -- the walk round the polygon
 unfoldable pub successorsIn : Floor → Node → List Successor
 successorsIn f node =
     let q = polygon f (node .polygon) in
     successorsOf (node .root) (node .interval) (table (cornerCount q) (λ i. vertex f (corner q i))) (entryOf f node)
+
+-- "Otherwise, from a node, each successor in order"
+unfoldable pub candidates : Floor → Node → List Successor
+candidates f node = cond (node .seed) (wholeEdges f node) (successorsIn f node)
+
+-- ---- the step over one of them, or none
 
 -- "allowed when the node's right (left) interval end lands on its entry edge's first (second) vertex and that is a turn vertex"
 unfoldable pub isAllowed : Floor → Node → SuccessorType → Bool
@@ -87,45 +78,58 @@ rootAfter f node LeftNonObservable = vertex f (node .second)
 
 -- "If the root is unchanged by ==, and the node is not the seed, the interval is clipped; none is no step."
 unfoldable pub clipped : Floor → Node → SuccessorType → Segment → Clipped
-clipped f node kind interval = cond (sameOf (rootAfter f node kind) (node .root)) (clipToConeOf (node .root) (node .interval) interval) (Seen interval)
+clipped f node kind interval =
+    cond (not (node .seed) && sameOf (rootAfter f node kind) (node .root)) (clipToConeOf (node .root) (node .interval) interval) (Seen interval)
 
-abbrev pub ifSeen : Clipped → (Segment → List Step) → List Step
+abbrev pub ifSeen : Clipped → (Segment → Permitted) → Permitted
 ifSeen (Seen interval) step = step interval
-ifSeen Nothing step = []
+ifSeen Nothing step = No
 
-unfoldable pub nodeStep : Floor → Node → Successor → List Step
-nodeStep f node s =
+-- ".. whose edge has a neighbour": over a wall there is no step.
+unfoldable pub stepOf : Floor → Node → Successor → Permitted
+stepOf f node s =
     let q = polygon f (node .polygon) in
     let kind = s .part .kind in
-    ifSeen (clipped f node kind (s .part .interval))
+    cond (eqb (neighbour q (s .edge)) unused) No
+    (cond (not (isAllowed f node kind)) No
+    (ifSeen (clipped f node kind (s .part .interval))
     (λ interval.
-    stepIf (not (eqb (neighbour q (s .edge)) unused) && isAllowed f node kind)
-    (record { kind = kind; polygon = neighbour q (s .edge); first = corner q (s .edge); second = cornerAfter q (s .edge); interval = interval }))
-
-unfoldable pub nodeStepsOf : Floor → Node → List Successor → List Step
-nodeStepsOf f node [] = []
-nodeStepsOf f node (s ∷ rest) = nodeStep f node s ++ nodeStepsOf f node rest
-
-unfoldable pub nodeSteps : Floor → Node → List Step
-nodeSteps f node = nodeStepsOf f node (successorsIn f node)
+    cond (not (isInterval interval)) No
+    (Yes (record { kind = kind; polygon = neighbour q (s .edge); first = corner q (s .edge); second = cornerAfter q (s .edge); interval = interval })))))
 
 -- ---- the steps out of a node
 
+abbrev pub andThen : Permitted → List Step → List Step
+andThen (Yes step) rest = step ∷ rest
+andThen No rest = rest
+
+-- the steps over these, in order
+unfoldable pub stepsOver : Floor → Node → List Successor → List Step
+stepsOver f node [] = []
+stepsOver f node (s ∷ rest) = andThen (stepOf f node s) (stepsOver f node rest)
+
 -- "Nothing steps out of the goal polygon."
 unfoldable pub stepsFrom : Floor → ℕ → Node → List Step
-stepsFrom f goal node = cond (eqb (node .polygon) goal) [] (cond (node .seed) (seedSteps f node) (nodeSteps f node))
+stepsFrom f goal node = cond (eqb (node .polygon) goal) [] (stepsOver f node (candidates f node))
+
+-- ---- nodes
 
 -- where every route begins: "root the start"
 unfoldable pub seedNode : Point → ℕ → Node
-seedNode start p = record { seed = true; polygon = p; first = 0; second = 0; interval = (start, start); root = start }
+seedNode start p = record { seed = true; polygon = p; first = 0; second = 0; interval = (start, start); root = start; length = zero; points = 0 }
 
--- where a step leads to
+-- where a step leads to; "where the root changed by !=" the way has one more point, and one more leg
 unfoldable pub enter : Floor → Node → Step → Node
-enter f node step = record {
-  seed = false;
-  polygon = step .polygon;
-  first = step .first;
-  second = step .second;
-  interval = step .interval;
-  root = rootAfter f node (step .kind);
-}
+enter f node step =
+    let root = rootAfter f node (step .kind) in
+    let kept = sameOf root (node .root) in
+    record {
+      seed = false;
+      polygon = step .polygon;
+      first = step .first;
+      second = step .second;
+      interval = step .interval;
+      root = root;
+      length = cond kept (node .length) (add binary32 (node .length) (distanceOf (node .root) root));
+      points = cond kept (node .points) (node .points + 1);
+    }

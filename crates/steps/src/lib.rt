@@ -1,26 +1,100 @@
-// What a permitted step is, for the search and the judge alike. Here are the values; specs/Steps says which steps there are.
+// The permitted steps out of a node, in the walk's order, for the search and the judge alike.
 
+ghost use mathlib.Core.Path.{_≡_};
+ghost use Prim.Native.Nat.{_+_, _*_, _/_, _≤_, _<_, _^_};
+ghost use lib.ListN.{length};
+ghost use Rattle.floor.specs.Stored.{floorOf};
+ghost use Rattle.steps.specs.Steps.{seedNode, rootAfter, enter};
 use helpers::Point;
 use helpers::Segment;
+use route::Step;
 use walk::SuccessorType;
 
-// A step as the route file has it: how the interval is seen, the polygon that is entered, the two vertices of the edge as
-// the polygon that is left has it, and the interval from its right end to its left end.
-pub struct Step {
-    pub kind: SuccessorType,
-    pub polygon: usize,
-    pub first: usize,
-    pub second: usize,
-    pub interval: Segment,
-}
+pub mod going;
+pub mod view;
 
-// Where steps lead to: the polygon, the edge and the interval that it was entered by, and the root, the last point where
-// the way turned. The seed, where every route begins, was entered by nothing.
+// Where steps lead to: the polygon, the edge and the interval that it was entered by, the root, which is the last point
+// where the way turned, and how long the way to it is and how many points it has. The seed, where every route begins, was
+// entered by nothing.
 pub struct Node {
     pub seed: bool,
-    pub polygon: usize,
-    pub first: usize,
-    pub second: usize,
+    pub polygon: u32,
+    pub first: u32,
+    pub second: u32,
     pub interval: Segment,
     pub root: Point,
+    pub length: f32,
+    pub points: u32,
+}
+
+impl Node {
+    pub fn seed(start: Point, polygon: u32) -> Node
+        ensures { λ r. ⌜ r ≡ seedNode start polygon ⌝ }
+    {
+        Node {
+            seed: true,
+            polygon,
+            first: 0,
+            second: 0,
+            interval: Segment(start, start),
+            root: start,
+            length: 0.0,
+            points: 0,
+        }
+    }
+
+    // The root after a step of this kind: the vertex that the way turns at, if it turns.
+    fn root_after(
+        self,
+        vertices: &[u8],
+        polygons: &[u8],
+        slots: usize,
+        kind: SuccessorType,
+    ) -> Point
+        requires { ⌜ (self .first < length (now vertices) / 8) × (self .second < length (now vertices) / 8) ⌝ }
+        ensures { λ r. ⌜ r ≡ rootAfter (floorOf slots (now (vertices .entry)) (now (polygons .entry))) self kind ⌝ }
+    {
+        match kind {
+            SuccessorType::Observable => self.root,
+            SuccessorType::RightNonObservable => {
+                floor::stored::used_vertex(vertices, self.first as usize)
+            }
+            SuccessorType::LeftNonObservable => {
+                floor::stored::used_vertex(vertices, self.second as usize)
+            }
+        }
+    }
+
+    // Where a step leads to. Where the root is another one, the way has one more point and one more leg.
+    pub fn enter(self, vertices: &[u8], polygons: &[u8], slots: usize, step: Step) -> Node
+        requires { ⌜ (self .first < length (now vertices) / 8) × (self .second < length (now vertices) / 8) × (self .points + 1 < 2 ^ 32) ⌝ }
+        ensures { λ r. ⌜ r ≡ enter (floorOf slots (now (vertices .entry)) (now (polygons .entry))) self step ⌝ }
+    {
+        let kind = step.kind;
+        let interval = step.interval;
+        let root = self.root_after(vertices, polygons, slots, kind);
+        let old = self.root;
+        if root.same(old) {
+            return Node {
+                seed: false,
+                polygon: step.polygon,
+                first: step.first,
+                second: step.second,
+                interval,
+                root,
+                length: self.length,
+                points: self.points,
+            };
+        }
+        Node {
+            seed: false,
+            polygon: step.polygon,
+            first: step.first,
+            second: step.second,
+            interval,
+            root,
+            length: self.length + old.distance(root),
+            points: self.points + 1,
+        }
+    }
 }

@@ -1,0 +1,41 @@
+use borrow.Author.Needs.{needs}
+use Rattle.steps.specs.Steps.{isInterval}
+use Rattle.steps.proofs.view.is_interval.Statement.{statement}
+use Rattle.steps.proofs.view.is_interval.Tie as tie
+
+same-requires : tie.Need-same-requires
+same-requires c κs = search needs
+
+returns : tie.Need-returns
+unfolding isInterval
+returns c =
+    let c1 = c .before in
+    rw (← c1 .same .ensures, c .if1 .taken)
+
+is-finite-requires : tie.Need-is-finite-requires
+is-finite-requires c κs = search needs
+
+is-finite-requires-2 : tie.Need-is-finite-requires-2
+is-finite-requires-2 c κs = search needs
+
+returns-2 : tie.Need-returns-2
+unfolding isInterval
+returns-2 c =
+    let c1 = c .before in
+    let c2 = c1 .before in
+    let c3 = c2 .before in
+    let c4 = c3 .before in
+    rw (← c4 .same .ensures, c3 .if1 .left, ← c2 .is-finite .ensures, c1 .if2 .taken, ← c .is-finite2 .ensures)
+
+returns-3 : tie.Need-returns-3
+unfolding isInterval
+returns-3 c =
+    let c1 = c .before in
+    let c2 = c1 .before in
+    let c3 = c2 .before in
+    rw (← c3 .same .ensures, c2 .if1 .left, ← c1 .is-finite .ensures, c .if2 .left)
+
+pub is-interval-spec : {M : Type 1} → statement M
+is-interval-spec =
+    tie.close
+    (tie.spec same-requires returns is-finite-requires is-finite-requires-2 returns-2 returns-3)
