@@ -12,3 +12,23 @@ pub struct Step {
     pub second: u32,
     pub interval: Segment,
 }
+
+// Which of a node's steps a record is.
+pub enum Sought {
+    Found(Step),
+    Missing,
+}
+
+// What the judge says of a route file.
+pub enum Judged {
+    // 0: the file is a true route.
+    Accepted,
+    // 20: the file is not 2 to 4,097 records of 32 bytes.
+    Length,
+    // 21: record 0 is not the seed.
+    NotSeed,
+    // 22: this middle record is not a permitted step; it is the lowest such record.
+    NotStep(usize),
+    // 23: this record, the last, is not the true end, or the one before it is not in the goal polygon.
+    NotEnd(usize),
+}

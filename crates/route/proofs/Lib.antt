@@ -1,0 +1,2 @@
+-- The laws of the route file that belong to no one function. Verdicts is the one to read.
+pub mod Bytes
