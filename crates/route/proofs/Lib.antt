@@ -1,2 +1,4 @@
 -- The laws of the route file that belong to no one function. Verdicts is the one to read.
 pub mod Bytes
+pub mod Find
+pub mod Turns
