@@ -2,3 +2,6 @@
 pub mod Bytes
 pub mod Find
 pub mod Turns
+pub mod Trails
+pub mod Verdicts
+pub mod Cut
