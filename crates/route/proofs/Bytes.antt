@@ -51,11 +51,9 @@ word-off w v xs ys h k e = (
 -- ---- words tell values
 
 pub bits-below : (x : Float) → T (fits binary32 x) → bits x < 2 ^ 32
-unfolding bits
 bits-below x h = toBits-lt binary32 x h
 
 pub bits-tell : (x y : Float) → T (fits binary32 x) → T (fits binary32 y) → bits x ≡ bits y → x ≡ y
-unfolding bits
 bits-tell x y h k e = sym (ofBits-toBits binary32 x h) ∙ ap (ofBits binary32) e ∙ ofBits-toBits binary32 y k
 
 pub kind-below : (k : SuccessorType) → kindNumber k < 5

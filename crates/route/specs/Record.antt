@@ -6,6 +6,7 @@ use lib.Ieee.{Float, binary32, toBits}
 use Rattle.word.specs.Word.{bytesOf}
 use Rattle.helpers.specs.declared.point.Point.{Point}
 use Rattle.route.specs.declared.Step.{Step}
+use Rattle.route.specs.declared.Record.{Record}
 use Rattle.route.specs.Step.{kindNumber}
 
 -- the bytes of words, each word's lowest byte first
@@ -14,7 +15,7 @@ wordsBytes [] = []
 wordsBytes (w ∷ ws) = bytesOf 4 w ++ wordsBytes ws
 
 -- an f32 as a word: its bits, and 0x7FC00000 for NaN
-unfoldable pub bits : Float → ℕ
+abbrev pub bits : Float → ℕ
 bits x = toBits binary32 x
 
 -- "Seed: 1, polygon, start x, y, 16 zero bytes."
@@ -46,3 +47,17 @@ stepBytes s = wordsBytes (stepWords s)
 
 unfoldable pub endBytes : ℕ → Point → Float → List ℕ
 endBytes points goal length = wordsBytes (endWords points goal length)
+
+-- ---- the same as the code has them, by value
+
+unfoldable pub recordBytes : Record → List ℕ
+recordBytes r = wordsBytes (r .words)
+
+unfoldable pub seedRecord : ℕ → Point → Record
+seedRecord polygon start = record { words = seedWords polygon start }
+
+unfoldable pub stepRecord : Step → Record
+stepRecord s = record { words = stepWords s }
+
+unfoldable pub endRecord : ℕ → Point → Float → Record
+endRecord points goal length = record { words = endWords points goal length }

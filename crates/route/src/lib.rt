@@ -1,7 +1,12 @@
-// The route file: what a step is in it. The records follow.
+// The route file: its records, what a step is in it, and what the judge may say of it.
 
+ghost use mathlib.Core.Path.{_≡_};
+ghost use Rattle.route.specs.Step.{kindNumber};
+ghost use Rattle.route.specs.Judge.{judgedNumber};
 use helpers::Segment;
 use walk::SuccessorType;
+
+pub mod records;
 
 // A step as the route file has it: how the interval is seen, the polygon that is entered, the two vertices of the edge as
 // the polygon that is left has it, and the interval from its right end to its left end.
@@ -31,4 +36,35 @@ pub enum Judged {
     NotStep(usize),
     // 23: this record, the last, is not the true end, or the one before it is not in the goal polygon.
     NotEnd(usize),
+}
+
+// A record of the route file: eight words, 32 bytes little-endian.
+pub struct Record {
+    pub words: [u32; 8],
+}
+
+// The number of a step's kind in its record.
+pub fn kind_number(kind: SuccessorType) -> u32
+    ensures { λ r. ⌜ r ≡ kindNumber kind ⌝ }
+{
+    match kind {
+        SuccessorType::LeftNonObservable => 4,
+        SuccessorType::Observable => 2,
+        SuccessorType::RightNonObservable => 3,
+    }
+}
+
+impl Judged {
+    // Document 01's number of a verdict.
+    pub fn number(self) -> u32
+        ensures { λ r. ⌜ r ≡ judgedNumber self ⌝ }
+    {
+        match self {
+            Judged::Accepted => 0,
+            Judged::Length => 20,
+            Judged::NotSeed => 21,
+            Judged::NotStep(_) => 22,
+            Judged::NotEnd(_) => 23,
+        }
+    }
 }
