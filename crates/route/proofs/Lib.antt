@@ -7,3 +7,4 @@ pub mod Turns
 pub mod Trails
 pub mod Verdicts
 pub mod Cut
+pub mod Examples
