@@ -1,16 +1,15 @@
 -- Demand 3: "An accepted file cut short anywhere is refused": with 20, or with 23 where it is cut between two records. Over any lawful world. Assumes nothing.
-use Prim.Native.Nat.{ℕ, zero, suc, _+_, _-_, _*_, _/_, _≤_, _<_}
+use Prim.Native.Nat.{ℕ, _+_, _-_, _*_, _/_, _<_}
 use native.Mathlib.Omega.{arith}
 use native.Mathlib.Decide.{decLt}
 use mathlib.Core.Path.{_≡_, refl, sym, ap, _∙_, subst}
 use mathlib.Core.Bool.{Bool, true, false}
-use mathlib.Core.List.{List, [], _++_, List·Memᴰ·not-nil}
+use mathlib.Core.List.{List, _++_, List·Memᴰ·not-nil}
 use mathlib.Core.Logic.{_⊎_, inl, inr}
 use lib.ListN.{length, take, length-append}
 use lib.Seq.{take-at, take-take, take-append-le, length-take-le}
 use Rattle.float.proofs.Tests.{failed}
 use Rattle.route.specs.declared.Step.{Step}
-use Rattle.route.specs.declared.Judged.{Judged}
 use Rattle.route.specs.declared.Judged.the-variants.{Accepted, Length, NotEnd}
 use Rattle.route.specs.Record.{stepBytes}
 use Rattle.route.specs.World.{World, _∈_, Lawful, Trail, seeded, stepped, TrueRoute}

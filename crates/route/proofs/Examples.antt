@@ -1,25 +1,22 @@
 -- Document 01's whole example: the three records byte for byte; a world with that one step, which is lawful; and what the judge says of that file there. So a lawful world with
 -- a true route exists. Assumes nothing.
-use Prim.Native.Nat.{ℕ, zero, suc, _^_, _<_}
-use native.Mathlib.Omega.{arith}
+use Prim.Native.Nat.{ℕ}
 use mathlib.Core.Path.{_≡_, refl, sym, ap₂, subst}
 use mathlib.Core.Bool.{Bool, true, false}
-use mathlib.Core.List.{List, [], _∷_, _++_, List·Memᴰ, List·Memᴰ·head, List·Memᴰ·not-nil, List·Memᴰ·eq-of-singleton}
-use lib.Dec.{T, lit<, lit≤}
-use lib.Ieee.{Float, binary32, fits, ofBits, toBits}
+use mathlib.Core.List.{List, [], _∷_, _++_, List·Memᴰ·head, List·Memᴰ·not-nil, List·Memᴰ·eq-of-singleton}
+use lib.Dec.{lit<, lit≤}
+use lib.Ieee.{binary32, ofBits, toBits}
 use lib.Ieee.Bits.{ofBits-fits}
-use lib.ListN.{length, take}
 use Rattle.float.proofs.Tests.{untrue}
 use Rattle.word.specs.Word.{bytesOf}
 use Rattle.helpers.specs.declared.point.Point.{Point}
 use Rattle.walk.specs.declared.SuccessorType.the-variants.{Observable}
 use Rattle.route.specs.declared.Step.{Step}
-use Rattle.route.specs.declared.Judged.{Judged}
 use Rattle.route.specs.declared.Judged.the-variants.{Accepted, Length, NotSeed, NotStep, NotEnd}
 use Rattle.route.specs.Step.{kindNumber, HeldPoint, Held}
-use Rattle.route.specs.Record.{wordsBytes, seedWords, stepWords, endWords, seedBytes, stepBytes, endBytes}
-use Rattle.route.specs.World.{World, _∈_, Lawful, Trail, seeded, stepped, TrueRoute}
-use Rattle.route.specs.Judge.{records, recordAt, sameBytes, lengthRight, findStep, onwards, judgeEnd, judgeFrom, judgeOf, judgedNumber}
+use Rattle.route.specs.Record.{records, recordAt, wordsBytes, seedWords, stepWords, endWords, seedBytes, stepBytes, endBytes}
+use Rattle.route.specs.World.{World, _∈_, Lawful, seeded, stepped, TrueRoute}
+use Rattle.route.specs.Judge.{sameBytes, lengthRight, findStep, onwards, judgeEnd, judgeFrom, judgeOf, judgedNumber}
 use Rattle.route.proofs.Bytes.{seed-is-32, end-is-32}
 use Rattle.route.proofs.Verdicts.{accepted-exactly}
 

@@ -2,9 +2,9 @@
 use Prim.Native.Nat.{ℕ}
 use native.Mathlib.Omega.{arith}
 use mathlib.Core.Path.{_≡_, refl, sym, ap, ap₂, _∙_, subst}
-use mathlib.Core.Bool.{Bool, true, false, _&&_, cond}
-use mathlib.Core.List.{List, [], _∷_, _++_, List·Memᴰ, List·Memᴰ·head, List·Memᴰ·tail, List·Memᴰ·not-nil, List·Memᴰ·cases-cons}
-use mathlib.Core.Logic.{_↔_, _⊎_, inl, inr, ⊎-elim}
+use mathlib.Core.Bool.{Bool, true, false, cond}
+use mathlib.Core.List.{List, [], _∷_, _++_, List·Memᴰ·head, List·Memᴰ·tail, List·Memᴰ·not-nil, List·Memᴰ·cases-cons}
+use mathlib.Core.Logic.{_↔_, _⊎_, ⊎-elim}
 use borrow.Author.Tests.{eqb-true, eq-eqb}
 use lib.Dec.{eqb}
 use Rattle.float.proofs.Tests.{and-true, untrue, failed}
@@ -64,6 +64,15 @@ find-append (s ∷ xs) ys bytes = go (sameBytes bytes (stepBytes s)) (find-appen
         → cond b (Found s) (findStep (xs ++ ys) bytes) ≡ orElse (cond b (Found s) (findStep xs bytes)) (findStep ys bytes)
     go true e = refl
     go false e = e
+
+-- a step that was found among the first is found; where it is missing there, the others are asked
+pub find-within : (xs ys : List Step) (bytes : List ℕ) (s : Step) → findStep xs bytes ≡ Found s → findStep (xs ++ ys) bytes ≡ Found s
+unfolding orElse
+find-within xs ys bytes s h = find-append xs ys bytes ∙ rw h
+
+pub find-beyond : (xs ys : List Step) (bytes : List ℕ) → findStep xs bytes ≡ Missing → findStep (xs ++ ys) bytes ≡ findStep ys bytes
+unfolding orElse
+find-beyond xs ys bytes h = find-append xs ys bytes ∙ rw h
 
 -- ---- what was found
 

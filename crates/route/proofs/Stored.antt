@@ -2,22 +2,26 @@
 use Prim.Native.Nat.{ℕ, zero, suc, _+_, _*_, _^_, _≤_, _<_}
 use native.Mathlib.Nat.{not-suc-le-zero, le-of-suc-le-suc, add-zero}
 use native.Mathlib.Omega.{arith}
-use mathlib.Core.Path.{_≡_, refl, sym, ap, ap₂, _∙_, subst}
-use mathlib.Core.Bool.{Bool, true, false}
+use mathlib.Core.Path.{_≡_, refl, sym, ap, ap₂, _∙_}
+use mathlib.Core.Bool.{Bool}
 use mathlib.Core.List.{List, [], _∷_, _++_, append-assoc}
+use mathlib.Core.Logic.{_⊎_, inl, inr}
 use borrow.Author.Tests.{eqb-true, eq-eqb}
-use lib.Dec.{eqb, lit<}
-use lib.ListN.{length, getD, take, drop, set, length-drop}
-use lib.Seq.{sets, take-suc, take-add, drop-drop, length-take-le}
+use lib.Dec.{eqb}
+use lib.Ieee.{Float}
+use lib.ListN.{length, getD, take, drop, set}
+use lib.Seq.{sets, length-sets, take-suc, take-add, drop-drop, drop-set-lt, length-take-le}
 use Rattle.counts.specs.Counts.{every}
 use Rattle.counts.proofs.Laws.{every-true, every-at}
 use Rattle.float.proofs.Tests.{same-test}
 use Rattle.word.specs.Word.{Bytes, littleEndian, bytesOf, wordAt, putWord}
 use Rattle.word.proofs.Bytes.{bytes-take, bytes-drop, length-bytesOf, littleEndian-bytesOf, bytesOf-littleEndian}
-use Rattle.word.proofs.Runs.{length-part}
-use Rattle.route.specs.Record.{wordsBytes, recordBytes}
+use Rattle.word.proofs.Runs.{apart-sets, sets-at, length-part}
+use Rattle.route.specs.Record.{wordsBytes, seedBytes, stepBytes, endBytes, recordAt, putRecord, recordBytes, seedRecord, stepRecord, endRecord}
+use Rattle.helpers.specs.declared.point.Point.{Point}
+use Rattle.route.specs.declared.Step.{Step}
 use Rattle.route.specs.declared.Record.{Record}
-use Rattle.route.specs.Judge.{recordAt, sameBytes}
+use Rattle.route.specs.Judge.{sameBytes}
 use Rattle.route.proofs.Bytes.{length-wordsBytes}
 use Rattle.route.proofs.Find.{same-true, same-of}
 use Rattle.route.proofs.Trails.{same-parts}
@@ -112,3 +116,40 @@ word-more out ws at k h =
     ap (λ (x : ℕ). sets (sets out at (wordsBytes (take k ws))) (at + x) (bytesOf 4 (getD ws k 0))) (sym n)
     ∙ sym (sets-append (wordsBytes (take k ws)) (bytesOf 4 (getD ws k 0)) out at)
     ∙ ap (λ (l : List ℕ). sets out at l) (sym (ap wordsBytes (take-suc ws k 0 h) ∙ wordsBytes-append (take k ws) (getD ws k 0 ∷ [])))
+
+-- ---- a record that was stored
+
+-- a record as the code has it is the record's bytes
+pub seed-record-bytes : (polygon : ℕ) (start : Point) → recordBytes (seedRecord polygon start) ≡ seedBytes polygon start
+unfolding recordBytes seedRecord seedBytes
+seed-record-bytes polygon start = refl
+
+pub step-record-bytes : (s : Step) → recordBytes (stepRecord s) ≡ stepBytes s
+unfolding recordBytes stepRecord stepBytes
+step-record-bytes s = refl
+
+pub end-record-bytes : (points : ℕ) (goal : Point) (len : Float) → recordBytes (endRecord points goal len) ≡ endBytes points goal len
+unfolding recordBytes endRecord endBytes
+end-record-bytes points goal len = refl
+
+pub put-keeps-length : (file : List ℕ) (i : ℕ) (bytes : List ℕ) → length (putRecord file i bytes) ≡ length file
+unfolding putRecord
+put-keeps-length file i bytes = length-sets file (i * 32) bytes
+
+pub put-reads-back : (file : List ℕ) (i : ℕ) (bytes : List ℕ) → length bytes ≡ 32 → (i + 1) * 32 ≤ length file → recordAt (putRecord file i bytes) i ≡ bytes
+unfolding putRecord recordAt
+put-reads-back file i bytes n h = ap (λ (x : ℕ). take x (drop (i * 32) (sets file (i * 32) bytes))) (sym n) ∙ sets-at bytes file (i * 32) (omega arith)
+
+pub put-leaves-others : (file : List ℕ) (i : ℕ) (bytes : List ℕ) (j : ℕ) → length bytes ≡ 32 → (i < j) ⊎ (j < i) → recordAt (putRecord file i bytes) j ≡ recordAt file j
+unfolding putRecord recordAt
+put-leaves-others file i bytes j n (inl h) = apart-sets 32 (j * 32) bytes file (i * 32) (inl (omega arith))
+put-leaves-others file i bytes j n (inr h) = apart-sets 32 (j * 32) bytes file (i * 32) (inr (omega arith))
+
+-- "On 0 the search fills exactly the route's bytes; those behind stay."
+pub put-leaves-behind : (file : List ℕ) (i : ℕ) (bytes : List ℕ) (n : ℕ) → length bytes ≡ 32 → (i + 1) * 32 ≤ n → drop n (putRecord file i bytes) ≡ drop n file
+unfolding putRecord
+put-leaves-behind file i bytes n m h = behind bytes file (i * 32) (omega arith)
+  where
+    behind : (vs l : List ℕ) (at : ℕ) → at + length vs ≤ n → drop n (sets l at vs) ≡ drop n l
+    behind [] l at g = refl
+    behind (v ∷ vs) l at g = behind vs (set l at v) (suc at) (omega arith) ∙ drop-set-lt n l at v (omega arith)

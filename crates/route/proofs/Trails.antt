@@ -1,15 +1,14 @@
 -- Trails and the bytes of a file: how long a trail's bytes are, that they tell its node, and that the judge follows a trail record by record. Rests on what a step's bytes tell. Assumes nothing.
-use Prim.Native.Nat.{ℕ, zero, suc, _+_, _-_, _*_, _≤_, _<_}
+use Prim.Native.Nat.{ℕ, suc, _+_, _*_, _≤_}
 use native.Mathlib.Omega.{arith}
-use mathlib.Core.Path.{_≡_, refl, sym, ap, ap₂, _∙_, subst}
-use mathlib.Core.List.{List, [], _++_}
+use mathlib.Core.Path.{_≡_, refl, sym, ap, ap₂, _∙_}
+use mathlib.Core.List.{List, _++_}
 use lib.ListN.{length, take, drop, length-append, length-take}
 use lib.Seq.{take-at, drop-at, take-add, length-take-le}
 use Rattle.route.specs.declared.Step.{Step}
-use Rattle.route.specs.Step.{Held}
-use Rattle.route.specs.Record.{stepBytes}
+use Rattle.route.specs.Record.{recordAt, stepBytes}
 use Rattle.route.specs.World.{World, _∈_, Lawful, Trail, seeded, stepped}
-use Rattle.route.specs.Judge.{recordAt, findStep, judgeFrom}
+use Rattle.route.specs.Judge.{judgeFrom}
 use Rattle.route.proofs.Bytes.{step-is-32, step-bytes-tell}
 use Rattle.route.proofs.Find.{find-is}
 use Rattle.route.proofs.Turns.{goes-on}

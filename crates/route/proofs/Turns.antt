@@ -1,16 +1,15 @@
 -- The judge turn by turn, as a loop over the middle records goes: how it begins, what one record does, and how it ends. Assumes nothing.
-use Prim.Native.Nat.{ℕ, zero, suc, _+_, _-_, _≤_, _<_}
+use Prim.Native.Nat.{ℕ, suc, _+_, _-_, _≤_, _<_}
 use native.Mathlib.Omega.{arith}
-use mathlib.Core.Path.{_≡_, refl, sym, ap, _∙_}
-use mathlib.Core.Bool.{Bool, true, false, _&&_, cond}
+use mathlib.Core.Path.{_≡_, refl, ap, _∙_}
+use mathlib.Core.Bool.{true, false}
 use mathlib.Core.List.{List}
 use Rattle.route.specs.declared.Step.{Step}
-use Rattle.route.specs.declared.Sought.{Sought}
 use Rattle.route.specs.declared.Sought.the-variants.{Found, Missing}
-use Rattle.route.specs.declared.Judged.{Judged}
 use Rattle.route.specs.declared.Judged.the-variants.{Accepted, Length, NotSeed, NotStep, NotEnd}
 use Rattle.route.specs.World.{World}
-use Rattle.route.specs.Judge.{recordAt, records, sameBytes, lengthRight, findStep, onwards, judgeEnd, judgeFrom, judgeOf}
+use Rattle.route.specs.Record.{recordAt, records}
+use Rattle.route.specs.Judge.{sameBytes, lengthRight, findStep, onwards, judgeEnd, judgeFrom, judgeOf}
 
 module _ {Node : Type 0} (w : World Node) (file : List ℕ) where
   -- ---- how it begins

@@ -1,23 +1,22 @@
 -- "Each number is given exactly in its case", over any lawful world: the judge accepts exactly the true routes, and gives 20, 21, 22 and 23 with their records exactly in their cases. Assumes nothing.
-use Prim.Native.Nat.{ℕ, zero, suc, _+_, _-_, _*_, _/_, _%_, _≤_, _<_}
+use Prim.Native.Nat.{ℕ, zero, suc, _+_, _-_, _*_, _/_, _%_, _≤_}
 use native.Mathlib.Omega.{arith}
-use mathlib.Core.Path.{_≡_, refl, sym, ap, ap₂, _∙_, subst}
+use mathlib.Core.Path.{_≡_, refl, sym, ap, _∙_, subst}
 use mathlib.Core.Bool.{Bool, true, false, _&&_, cond}
-use mathlib.Core.List.{List, [], _++_}
-use mathlib.Core.Logic.{_↔_, _⊎_, inl, inr, ⊎-elim}
+use mathlib.Core.List.{List, _++_}
+use mathlib.Core.Logic.{_↔_, _⊎_, inl, inr}
 use borrow.Author.Tests.{eqb-true, eq-eqb, leb-true, le-leb}
 use lib.Dec.{eqb, leb}
-use lib.ListN.{length, take, drop, length-append}
-use lib.Seq.{take-at, take-all}
+use lib.ListN.{length, take, length-append}
+use lib.Seq.{take-all}
 use Rattle.float.proofs.Tests.{and-true, untrue, failed}
-use Rattle.route.specs.declared.Step.{Step}
 use Rattle.route.specs.declared.Sought.{Sought}
 use Rattle.route.specs.declared.Sought.the-variants.{Found, Missing}
 use Rattle.route.specs.declared.Judged.{Judged}
 use Rattle.route.specs.declared.Judged.the-variants.{Accepted, Length, NotSeed, NotStep, NotEnd}
-use Rattle.route.specs.Record.{stepBytes}
-use Rattle.route.specs.World.{World, _∈_, Lawful, Trail, seeded, stepped, TrueRoute}
-use Rattle.route.specs.Judge.{recordAt, records, sameBytes, lengthRight, findStep, judgeEnd, judgeFrom, judgeOf}
+use Rattle.route.specs.Record.{recordAt, records, stepBytes}
+use Rattle.route.specs.World.{World, Lawful, Trail, seeded, stepped, TrueRoute}
+use Rattle.route.specs.Judge.{sameBytes, lengthRight, findStep, judgeEnd, judgeFrom, judgeOf}
 use Rattle.route.specs.Verdict.{RouteLength, LeadsTo, SeedFault, StepFault, EndFault, Case}
 use Rattle.route.proofs.Find.{same-true, same-of, same-false, other-of, find-found, find-missing, find-none}
 use Rattle.route.proofs.Turns.{begins-length, begins-wrong, begins, goes-on, stops, ends, end-accepted, end-outside, end-wrong}

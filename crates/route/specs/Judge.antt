@@ -1,26 +1,18 @@
 -- Document 01, the judge: "20, then records in order". What it says of a file, over any world. Definitions only. Assumes nothing.
-use Prim.Native.Nat.{ℕ, zero, suc, _+_, _-_, _*_, _/_, _%_}
+use Prim.Native.Nat.{ℕ, zero, suc, _+_, _-_, _%_}
 use mathlib.Core.Bool.{Bool, true, false, _&&_, cond}
 use mathlib.Core.List.{List, [], _∷_}
 use lib.Dec.{eqb, leb}
-use lib.ListN.{length, take, drop}
+use lib.ListN.{length}
 use Rattle.route.specs.declared.Step.{Step}
 use Rattle.route.specs.declared.Sought.{Sought}
 use Rattle.route.specs.declared.Sought.the-variants.{Found, Missing}
 use Rattle.route.specs.declared.Judged.{Judged}
 use Rattle.route.specs.declared.Judged.the-variants.{Accepted, Length, NotSeed, NotStep, NotEnd}
-use Rattle.route.specs.Record.{stepBytes}
+use Rattle.route.specs.Record.{recordAt, records, stepBytes}
 use Rattle.route.specs.World.{World}
 
 -- ---- records
-
--- the record with this number, counted from 0
-unfoldable pub recordAt : List ℕ → ℕ → List ℕ
-recordAt file i = take 32 (drop (i * 32) file)
-
--- how many records a file has
-unfoldable pub records : List ℕ → ℕ
-records file = length file / 32
 
 -- "A record is right only when all its bytes are."
 unfoldable pub sameBytes : List ℕ → List ℕ → Bool

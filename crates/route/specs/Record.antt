@@ -1,8 +1,10 @@
 -- Document 01, "The route file": the bytes of its records. "32-byte records", each of them eight u32 words, "little-endian"; a float stands there as its bits.
 -- Definitions only. Assumes nothing.
-use Prim.Native.Nat.{ℕ}
+use Prim.Native.Nat.{ℕ, _*_, _/_}
 use mathlib.Core.List.{List, [], _∷_, _++_}
 use lib.Ieee.{Float, binary32, toBits}
+use lib.ListN.{length, take, drop}
+use lib.Seq.{sets}
 use Rattle.word.specs.Word.{bytesOf}
 use Rattle.helpers.specs.declared.point.Point.{Point}
 use Rattle.route.specs.declared.Step.{Step}
@@ -37,7 +39,7 @@ stepWords s =
 
 -- "End: 5, number of points, goal x, y, length, 12 zero bytes."
 unfoldable pub endWords : ℕ → Point → Float → List ℕ
-endWords points goal length = 5 ∷ points ∷ bits (goal .x) ∷ bits (goal .y) ∷ bits length ∷ 0 ∷ 0 ∷ 0 ∷ []
+endWords points goal len = 5 ∷ points ∷ bits (goal .x) ∷ bits (goal .y) ∷ bits len ∷ 0 ∷ 0 ∷ 0 ∷ []
 
 unfoldable pub seedBytes : ℕ → Point → List ℕ
 seedBytes polygon start = wordsBytes (seedWords polygon start)
@@ -46,7 +48,21 @@ unfoldable pub stepBytes : Step → List ℕ
 stepBytes s = wordsBytes (stepWords s)
 
 unfoldable pub endBytes : ℕ → Point → Float → List ℕ
-endBytes points goal length = wordsBytes (endWords points goal length)
+endBytes points goal len = wordsBytes (endWords points goal len)
+
+-- ---- records in a file
+
+-- the record with this number, counted from 0
+unfoldable pub recordAt : List ℕ → ℕ → List ℕ
+recordAt file i = take 32 (drop (i * 32) file)
+
+-- how many records a file has
+unfoldable pub records : List ℕ → ℕ
+records file = length file / 32
+
+-- the file after a record's bytes were stored as the one with this number
+unfoldable pub putRecord : List ℕ → ℕ → List ℕ → List ℕ
+putRecord file i bytes = sets file (i * 32) bytes
 
 -- ---- the same as the code has them, by value
 
@@ -60,4 +76,4 @@ unfoldable pub stepRecord : Step → Record
 stepRecord s = record { words = stepWords s }
 
 unfoldable pub endRecord : ℕ → Point → Float → Record
-endRecord points goal length = record { words = endWords points goal length }
+endRecord points goal len = record { words = endWords points goal len }

@@ -9,9 +9,8 @@ use lib.ListN.{length, take}
 use Rattle.route.specs.declared.Step.{Step}
 use Rattle.route.specs.declared.Judged.{Judged}
 use Rattle.route.specs.declared.Judged.the-variants.{Accepted, Length, NotSeed, NotStep, NotEnd}
-use Rattle.route.specs.Record.{stepBytes}
+use Rattle.route.specs.Record.{recordAt, stepBytes}
 use Rattle.route.specs.World.{World, _∈_, Trail, TrueRoute}
-use Rattle.route.specs.Judge.{recordAt}
 
 -- "32 × (2 to 4,097) bytes"
 pub record RouteLength (file : List ℕ) : Type 0 where

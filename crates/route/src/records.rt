@@ -3,9 +3,8 @@
 ghost use mathlib.Core.Path.{_≡_};
 ghost use Prim.Native.Nat.{_+_, _*_, _≤_};
 ghost use lib.ListN.{length};
-ghost use lib.Seq.{sets};
-ghost use Rattle.route.specs.Record.{recordBytes, seedRecord, stepRecord, endRecord};
-ghost use Rattle.route.specs.Judge.{recordAt, sameBytes};
+ghost use Rattle.route.specs.Record.{recordAt, putRecord, recordBytes, seedRecord, stepRecord, endRecord};
+ghost use Rattle.route.specs.Judge.{sameBytes};
 use crate::Record;
 use crate::Step;
 use crate::kind_number;
@@ -91,7 +90,7 @@ impl Record {
     // Stores the record's bytes as the one with this number.
     pub fn write(self, out: &mut [u8], i: usize)
         requires { ⌜ (i + 1) * 32 ≤ length (now out) ⌝ }
-        ensures { λ r. ⌜ now (out .exit) ≡ sets (now (out .entry)) (i * 32) (recordBytes self) ⌝ }
+        ensures { λ r. ⌜ now (out .exit) ≡ putRecord (now (out .entry)) i (recordBytes self) ⌝ }
     {
         let words = self.words;
         let mut k = 0;

@@ -1,16 +1,15 @@
 -- `route::Record::is_at` meets its contract. The loop's invariant: the words that were passed stand at their places. Assumes nothing.
-use Prim.Native.Nat.{ℕ, _+_, _-_, _*_, _^_, _≤_, _<_}
+use Prim.Native.Nat.{ℕ, _-_, _*_, _≤_}
 use native.Mathlib.Numerals.{add-one}
 use native.Mathlib.Omega.{arith}
-use mathlib.Core.Path.{_≡_, refl, sym, ap, _∙_, subst}
-use mathlib.Core.Bool.{true, false, _&&_}
+use mathlib.Core.Path.{_≡_, refl, sym, _∙_, subst}
+use mathlib.Core.Bool.{true}
 use borrow.Author.Tests.{eq-eqb, ne-eqb}
-use lib.ListN.{length, getD}
+use lib.ListN.{length}
 use Rattle.counts.specs.Counts.{every}
 use Rattle.counts.proofs.Laws.{every-false}
-use Rattle.word.specs.Word.{Bytes}
-use Rattle.route.specs.Record.{recordBytes}
-use Rattle.route.specs.Judge.{recordAt, sameBytes}
+use Rattle.route.specs.Record.{recordAt, recordBytes}
+use Rattle.route.specs.Judge.{sameBytes}
 use Rattle.route.proofs.Stored.{stands, record-stands}
 use Rattle.route.proofs.Known.{words-length, words-below}
 use Rattle.route.proofs.Record.is_at.Statement.{statement}

@@ -1,5 +1,5 @@
 -- `route::Record::write` meets its contract. The loop's invariant: the bytes of the words that were passed are stored, and the length stays. Assumes nothing.
-use Prim.Native.Nat.{ℕ, _+_, _-_, _*_, _≤_, _<_}
+use Prim.Native.Nat.{ℕ, _+_, _-_, _*_, _≤_}
 use native.Mathlib.Numerals.{add-one}
 use native.Mathlib.Omega.{arith}
 use mathlib.Core.Path.{_≡_, refl, sym, ap, _∙_}
@@ -7,7 +7,7 @@ use mathlib.Core.List.{List}
 use lib.ListN.{length, getD, take}
 use lib.Seq.{sets, length-sets, take-all}
 use Rattle.word.specs.Word.{putWord}
-use Rattle.route.specs.Record.{wordsBytes, recordBytes}
+use Rattle.route.specs.Record.{putRecord, wordsBytes, recordBytes}
 use Rattle.route.proofs.Stored.{word-more}
 use Rattle.route.proofs.Known.{words-length}
 use Rattle.route.proofs.Record.write.Statement.{statement}
@@ -66,7 +66,7 @@ same-length : tie.Need-same-length Inv-loop μ-loop
 same-length c = c .before .loop .inv .1
 
 returns : tie.Need-returns Inv-loop μ-loop
-unfolding recordBytes
+unfolding putRecord recordBytes
 returns c =
     let l = c .before in
     let s = l .before .before .before in
