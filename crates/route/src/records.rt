@@ -77,12 +77,12 @@ impl Record {
         ensures { λ r. ⌜ r ≡ sameBytes (recordAt (now (route .entry)) i) (recordBytes self) ⌝ }
     {
         let words = self.words;
-        let mut k = 0;
-        while k < 8 {
-            if word::read(route, i * Record::BYTES + k * 4) != words[k] {
+        let mut j = 0;
+        while j < 8 {
+            if word::read(route, i * Record::BYTES + j * 4) != words[j] {
                 return false;
             }
-            k += 1;
+            j += 1;
         }
         true
     }

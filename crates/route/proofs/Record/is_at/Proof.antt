@@ -16,10 +16,10 @@ use Rattle.route.proofs.Record.is_at.Statement.{statement}
 use Rattle.route.proofs.Record.is_at.Tie as tie
 
 abbrev Inv-loop : tie.InvT-loop
-Inv-loop route i words k₀ k = (k ≤ 8) × (every k (stands route (i * 32) words) ≡ true)
+Inv-loop route i words j₀ j = (j ≤ 8) × (every j (stands route (i * 32) words) ≡ true)
 
 abbrev μ-loop : tie.MeasureT-loop
-μ-loop route i words k₀ k = 8 - k
+μ-loop route i words j₀ j = 8 - j
 
 -- the words all stand at their places, or not all: what the contract says
 whole : (c : tie.At-loop Inv-loop μ-loop)
@@ -28,7 +28,7 @@ whole : (c : tie.At-loop Inv-loop μ-loop)
 whole c =
     let s = c .before .before .before in
     let n : length (s .args .self .words) ≡ 8 = words-length (s .args .self .words) (s .good .0 .1 .1 .0 .1 .0 .1) in
-    record-stands (s .args .self) (s .args .route .now) (s .args .i) (λ j. c .before .before .shared-slice-known .given j .fits) (s .pre) n
+    record-stands (s .args .self) (s .args .route .now) (s .args .i) (λ n. c .before .before .shared-slice-known .given n .fits) (s .pre) n
     (words-below (s .args .self .words) (s .good .0 .1 .1 .0 .0) (s .good .0 .1 .1 .0 .1 .1))
 
 loop-holds : tie.Need-loop-holds Inv-loop μ-loop
@@ -57,12 +57,12 @@ returns : tie.Need-returns Inv-loop μ-loop
 returns c =
     let l = c .before .before .before in
     let s = l .before .before .before in
-    sym (every-false 8 (stands (s .args .route .now) (s .args .i * 32) (s .args .self .words)) (l .loop .k) (c .before .before .loop-test .taken)
+    sym (every-false 8 (stands (s .args .route .now) (s .args .i * 32) (s .args .self .words)) (l .loop .j) (c .before .before .loop-test .taken)
     (ne-eqb _ _ (λ e. c .if1 .taken (c .before .read .ensures ∙ e))))
     ∙ whole l
 
-add-k : tie.Need-add-k Inv-loop μ-loop
-add-k c = omega arith
+add-j : tie.Need-add-j Inv-loop μ-loop
+add-j c = omega arith
 
 loop-less : tie.Need-loop-less Inv-loop μ-loop
 loop-less c = omega arith
@@ -77,7 +77,7 @@ returns-2 : tie.Need-returns-2 Inv-loop μ-loop
 returns-2 c =
     let l = c .before in
     let s = l .before .before .before in
-    let e : l .loop .k ≡ 8 = omega arith in
+    let e : l .loop .j ≡ 8 = omega arith in
     sym (subst (λ (x : ℕ). every x (stands (s .args .route .now) (s .args .i * 32) (s .args .self .words)) ≡ true) e (l .loop .inv .1)) ∙ whole l
 
 pub is-at-spec : {M : Type 1} → statement M
@@ -94,7 +94,7 @@ is-at-spec =
     mul-if1
     array-read-if1
     returns
-    add-k
+    add-j
     loop-less
     loop-again
     returns-2)
