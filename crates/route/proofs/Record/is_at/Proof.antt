@@ -57,7 +57,7 @@ returns : tie.Need-returns Inv-loop μ-loop
 returns c =
     let l = c .before .before .before in
     let s = l .before .before .before in
-    sym (every-false 8 (stands (s .args .route .now) (s .args .i * 32) (s .args .self .words)) (l .loop .j) (c .before .before .loop-test .taken)
+    sym (every-false 8 (stands (s .args .route .now) (s .args .i * 32) (s .args .self .words)) (l .loop .j) (omega arith)
     (ne-eqb _ _ (λ e. c .if1 .taken (c .before .read .ensures ∙ e))))
     ∙ whole l
 
