@@ -1,8 +1,8 @@
 -- The judge turn by turn, as a loop over the middle records goes: how it begins, what one record does, and how it ends. Assumes nothing.
 use Prim.Native.Nat.{ℕ, suc, _+_, _-_, _≤_, _<_}
 use native.Mathlib.Omega.{arith}
-use mathlib.Core.Path.{_≡_, refl, ap, ap₂, _∙_}
-use mathlib.Core.Bool.{Bool, true, false, _&&_, cond}
+use mathlib.Core.Path.{_≡_, refl, ap, _∙_}
+use mathlib.Core.Bool.{true, false}
 use mathlib.Core.List.{List}
 use Rattle.route.specs.declared.Step.{Step}
 use Rattle.route.specs.declared.Sought.the-variants.{Found, Missing}
@@ -56,12 +56,12 @@ module _ {Node : Type 0} (w : World Node) (file : List ℕ) where
 
   pub end-accepted : (node : Node) (i : ℕ) → w .inGoal node ≡ true → sameBytes (recordAt file i) (w .endBytes node) ≡ true → judgeEnd w file node i ≡ Accepted
   unfolding judgeEnd
-  end-accepted node i g e = ap₂ (λ (a b : Bool). cond (a && b) Accepted (NotEnd i)) g e
+  end-accepted node i g e = simp (g, e)
 
   pub end-outside : (node : Node) (i : ℕ) → w .inGoal node ≡ false → judgeEnd w file node i ≡ NotEnd i
   unfolding judgeEnd
-  end-outside node i g = ap (λ (a : Bool). cond (a && sameBytes (recordAt file i) (w .endBytes node)) Accepted (NotEnd i)) g
+  end-outside node i g = simp g
 
   pub end-wrong : (node : Node) (i : ℕ) → w .inGoal node ≡ true → sameBytes (recordAt file i) (w .endBytes node) ≡ false → judgeEnd w file node i ≡ NotEnd i
   unfolding judgeEnd
-  end-wrong node i g e = ap₂ (λ (a b : Bool). cond (a && b) Accepted (NotEnd i)) g e
+  end-wrong node i g e = simp (g, e)
