@@ -1,7 +1,12 @@
-// The route file: what a step is in it. The records follow.
+// The route file: its records, what a step is in it, and what the judge may say of it.
 
+ghost use mathlib.Core.Path.{_≡_};
+ghost use Rattle.route.specs.Step.{kindNumber};
+ghost use Rattle.route.specs.Judge.{lengthRight, judgedNumber};
 use helpers::Segment;
 use walk::SuccessorType;
+
+mod records;
 
 // A step as the route file has it: how the interval is seen, the polygon that is entered, the two vertices of the edge as
 // the polygon that is left has it, and the interval from its right end to its left end.
@@ -11,4 +16,66 @@ pub struct Step {
     pub first: u32,
     pub second: u32,
     pub interval: Segment,
+}
+
+// Which of a node's steps a record is.
+pub enum Sought {
+    Found(Step),
+    Missing,
+}
+
+// What the judge says of a route file.
+pub enum Judged {
+    // 0: the file is a true route.
+    Accepted,
+    // 20: the file is not 2 to 4,097 records of 32 bytes.
+    Length,
+    // 21: record 0 is not the seed.
+    NotSeed,
+    // 22: this middle record is not a permitted step; it is the lowest such record.
+    NotStep(usize),
+    // 23: this record, the last, is not the true end, or the one before it is not in the goal polygon.
+    NotEnd(usize),
+}
+
+// A record of the route file: eight words, 32 bytes little-endian.
+pub struct Record {
+    pub words: [u32; 8],
+}
+
+// The most records of a route file.
+const MOST_RECORDS: usize = 4097;
+
+// 20: whole records, from 2 to 4,097.
+pub fn length_right(route: &[u8]) -> bool
+    ensures { λ r. ⌜ r ≡ lengthRight (now (route .entry)) ⌝ }
+{
+    let count = route.len() / Record::BYTES;
+    route.len() % Record::BYTES == 0 && (2 <= count && count <= MOST_RECORDS)
+}
+
+// The number of a step's kind in its record.
+pub fn kind_number(kind: SuccessorType) -> u32
+    ensures { λ r. ⌜ r ≡ kindNumber kind ⌝ }
+{
+    match kind {
+        SuccessorType::LeftNonObservable => 4,
+        SuccessorType::Observable => 2,
+        SuccessorType::RightNonObservable => 3,
+    }
+}
+
+impl Judged {
+    // Document 01's number of a verdict.
+    pub fn number(self) -> u32
+        ensures { λ r. ⌜ r ≡ judgedNumber self ⌝ }
+    {
+        match self {
+            Judged::Accepted => 0,
+            Judged::Length => 20,
+            Judged::NotSeed => 21,
+            Judged::NotStep(_) => 22,
+            Judged::NotEnd(_) => 23,
+        }
+    }
 }
