@@ -1,0 +1,1 @@
+// The laws come first: there is nothing to run yet.
