@@ -145,7 +145,7 @@ module _ (f g : ℕ → Float) (n : ℕ) (q p : ℕ → Bool) (few : n ≤ none)
 
 -- ---- the tree of no queued place
 
-module _ (f : ℕ → Float) (n : ℕ) (q : ℕ → Bool) (few : n ≤ none) (z : Empty n q) where
+module _ (f : ℕ → Float) (n : ℕ) (q : ℕ → Bool) (z : Empty n q) where
   none-leaf : (i : ℕ) → i < n → none ≡ leaf q i
   unfolding leaf
   none-leaf i l = rw (z i l)

@@ -113,6 +113,10 @@ climb-levels f n (suc d) (suc e) k t h g = go (climb-levels f n d e (k / 2) (rep
     go r (yes z) = rw (eq-eqb k 0 z)
     go r (no z) = rw (ne-eqb k 0 z) (r (omega arith) (omega arith))
 
+pub repaired-length : (f : ℕ → Float) (n k : ℕ) (t : List ℕ) → length (repaired f n k t) ≡ length t
+unfolding repaired
+repaired-length f n k t = length-set t k (better f n (getD t (2 * k) 0) (getD t (2 * k + 1) 0))
+
 one-turn : (f : ℕ → Float) (n d k : ℕ) (t : List ℕ) → 0 < k → climbed f n (suc d) k t ≡ climbed f n d (k / 2) (repaired f n k t)
 unfolding climbed
 one-turn f n d k t z = rw (ne-eqb k 0 (omega arith))
