@@ -12,16 +12,16 @@ use lib.Dec.{eqb}
 use lib.ListN.{length, getD, set, length-set}
 use lib.Seq.{getD-set-same, getD-set-other}
 use lib.Ieee.{Float}
-use Rattle.queue.specs.Queue.{none, better, leaf, put, Tree, treeWords}
+use Rattle.queue.specs.Queue.{none, better, ownOf, put, Tree, treeWords}
 use Rattle.queue.specs.Words.{repaired, climbed, placed}
-use Rattle.queue.proofs.Words.{words-tree, tree-is, is-tree}
+use Rattle.queue.proofs.Words.{words-tree, tree-is}
 
 -- ---- right but for one word
 
 pub record Except (f : ℕ → Float) (n : ℕ) (q : ℕ → Bool) (t : List ℕ) (p : ℕ) : Type 0 where
   pub size : length t ≡ 2 * n
   pub unused : 0 < n → getD t 0 0 ≡ none
-  pub own : (i : ℕ) → i < n → getD t (n + i) 0 ≡ leaf q i
+  pub own : (i : ℕ) → i < n → getD t (n + i) 0 ≡ ownOf i (q i)
   pub inner : (k : ℕ) → 0 < k → k < n → (k ≡ p) ⊎ (getD t k 0 ≡ better f n (getD t (2 * k) 0) (getD t (2 * k + 1) 0))
 
 -- a store leaves the other words
@@ -37,8 +37,8 @@ rest f n t m w k a b h =
     ∙ sym (ap₂ (better f n) (other t m w (2 * k) (λ e. b (omega arith))) (other t m w (2 * k + 1) (λ e. b (omega arith))))
 
 -- after word n + i was stored only the word above it may be wrong
-module _ (f : ℕ → Float) (n : ℕ) (q p : ℕ → Bool) (i w : ℕ) (t : List ℕ) (l : i < n) (v : w ≡ leaf p i)
-    (s : (j : ℕ) → j < n → (j ≡ i → ⊥) → leaf q j ≡ leaf p j) where
+module _ (f : ℕ → Float) (n : ℕ) (q p : ℕ → Bool) (i w : ℕ) (t : List ℕ) (l : i < n) (v : w ≡ ownOf i (p i))
+    (s : (j : ℕ) → j < n → (j ≡ i → ⊥) → ownOf j (q j) ≡ ownOf j (p j)) where
   starts : Tree f n q t → Except f n p (set t (n + i) w) ((n + i) / 2)
   starts e = record {
     size = length-set t (n + i) w ∙ e .size;
@@ -47,7 +47,7 @@ module _ (f : ℕ → Float) (n : ℕ) (q p : ℕ → Bool) (i w : ℕ) (t : Lis
     inner = λ k z h. inside k z h (ℕ-discrete k ((n + i) / 2));
   }
     where
-      at : (j : ℕ) → j < n → Dec (j ≡ i) → getD (set t (n + i) w) (n + j) 0 ≡ leaf p j
+      at : (j : ℕ) → j < n → Dec (j ≡ i) → getD (set t (n + i) w) (n + j) 0 ≡ ownOf j (p j)
       at j h (yes g) = rw g (getD-set-same t (n + i) w 0 (rw (e .size) (omega arith)) ∙ v)
       at j h (no g) = other t (n + i) w (n + j) (λ x. g (omega arith)) ∙ e .own j h ∙ s j h g
 
@@ -117,6 +117,15 @@ pub repaired-length : (f : ℕ → Float) (n k : ℕ) (t : List ℕ) → length 
 unfolding repaired
 repaired-length f n k t = length-set t k (better f n (getD t (2 * k) 0) (getD t (2 * k + 1) 0))
 
+climbed-length : (f : ℕ → Float) (n d k : ℕ) (t : List ℕ) → length (climbed f n d k t) ≡ length t
+unfolding climbed
+climbed-length f n zero k t = refl
+climbed-length f n (suc d) k t = go (eqb k 0) (climbed-length f n d (k / 2) (repaired f n k t) ∙ repaired-length f n k t)
+  where
+    go : (s : Bool) → length (climbed f n d (k / 2) (repaired f n k t)) ≡ length t → length (cond s t (climbed f n d (k / 2) (repaired f n k t))) ≡ length t
+    go true h = refl
+    go false h = h
+
 one-turn : (f : ℕ → Float) (n d k : ℕ) (t : List ℕ) → 0 < k → climbed f n (suc d) k t ≡ climbed f n d (k / 2) (repaired f n k t)
 unfolding climbed
 one-turn f n d k t z = rw (ne-eqb k 0 (omega arith))
@@ -144,38 +153,17 @@ pub put-other : (q : ℕ → Bool) (i : ℕ) (b : Bool) (j : ℕ) → (j ≡ i �
 unfolding put
 put-other q i b j d = rw (ne-eqb j i d)
 
-leaf-put-same : (q : ℕ → Bool) (i : ℕ) (b : Bool) → leaf (put q i b) i ≡ cond b i none
-unfolding leaf
-leaf-put-same q i b = rw (put-same q i b)
+module _ (f : ℕ → Float) (n : ℕ) (q : ℕ → Bool) (i : ℕ) (l : i < n) (b : Bool) where
+  pub placed-tree : (t : List ℕ) → Tree f n q t → Tree f n (put q i b) (placed f n i b t)
+  unfolding placed
+  placed-tree t e =
+      climbs f n (put q i b) ((n + i) / 2) ((n + i) / 2) (set t (n + i) (ownOf i b)) (omega arith) (omega arith)
+      (starts f n q (put q i b) i (ownOf i b) t l (ap (ownOf i) (sym (put-same q i b))) (λ j h d. ap (ownOf j) (sym (put-other q i b j d))) e)
 
-leaf-put-other : (q : ℕ → Bool) (i : ℕ) (b : Bool) (j : ℕ) → (j ≡ i → ⊥) → leaf (put q i b) j ≡ leaf q j
-unfolding leaf
-leaf-put-other q i b j d = rw (put-other q i b j d)
+  -- the same as an equation
+  pub placed-words : placed f n i b (treeWords f n q) ≡ treeWords f n (put q i b)
+  placed-words = tree-is f n (put q i b) (placed f n i b (treeWords f n q)) (placed-tree (treeWords f n q) (words-tree f n q))
 
-module _ (f : ℕ → Float) (n : ℕ) (q : ℕ → Bool) (i : ℕ) (l : i < n) where
-  module _ (t : List ℕ) (e : Tree f n q t) where
-    -- the tree of a set with place i in it or not is the tree with its own word placed
-    placed-tree : (b : Bool) → Tree f n (put q i b) (placed f n i (cond b i none) t)
-    unfolding placed
-    placed-tree b =
-        climbs f n (put q i b) ((n + i) / 2) ((n + i) / 2) (set t (n + i) (cond b i none)) (omega arith) (omega arith)
-        (starts f n q (put q i b) i (cond b i none) t l (sym own) others e)
-      where
-        own : leaf (put q i b) i ≡ cond b i none
-        own = leaf-put-same q i b
-
-        others : (j : ℕ) → j < n → (j ≡ i → ⊥) → leaf q j ≡ leaf (put q i b) j
-        others j h d = sym (leaf-put-other q i b j d)
-
-    pub pushed-tree : Tree f n (put q i true) (placed f n i i t)
-    pushed-tree = placed-tree true
-
-    pub removed-tree : Tree f n (put q i false) (placed f n i none t)
-    removed-tree = placed-tree false
-
-  -- the same as equations
-  pub pushed-words : placed f n i i (treeWords f n q) ≡ treeWords f n (put q i true)
-  pushed-words = tree-is f n (put q i true) _ (pushed-tree (treeWords f n q) (words-tree f n q))
-
-  pub removed-words : placed f n i none (treeWords f n q) ≡ treeWords f n (put q i false)
-  removed-words = tree-is f n (put q i false) _ (removed-tree (treeWords f n q) (words-tree f n q))
+pub placed-length : (f : ℕ → Float) (n i : ℕ) (b : Bool) (t : List ℕ) → length (placed f n i b t) ≡ length t
+unfolding placed
+placed-length f n i b t = climbed-length f n ((n + i) / 2) ((n + i) / 2) (set t (n + i) (ownOf i b)) ∙ length-set t (n + i) (ownOf i b)

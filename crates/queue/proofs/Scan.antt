@@ -9,7 +9,7 @@ use mathlib.Core.Logic.{_⊎_, inl, inr, ⊎-elim}
 use lib.Dec.{T}
 use lib.Ieee.{Float, isNan}
 use Rattle.float.proofs.Tests.{failed, untrue}
-use Rattle.queue.specs.Queue.{none, before, better, leaf, leastBelow, leastOf, Least, NoNan, Empty}
+use Rattle.queue.specs.Queue.{none, before, better, ownOf, leastBelow, leastOf, Least, NoNan, Empty}
 use Rattle.queue.proofs.Order.{neither-before, not-before-transitive, better-cases, better-place-left, better-place-right, better-left, better-right, better-same}
 
 -- ---- a word is no place, or a queued one
@@ -17,17 +17,17 @@ use Rattle.queue.proofs.Order.{neither-before, not-before-transitive, b
 abbrev pub Held : ℕ → (ℕ → Bool) → ℕ → Type 0
 Held n q w = (w ≡ none) ⊎ ((w < n) × (q w ≡ true))
 
-pub held-leaf : (n : ℕ) (q : ℕ → Bool) (i : ℕ) → i < n → Held n q (leaf q i)
-unfolding leaf
-held-leaf n q i l = go (q i) refl
+pub held-own : (n : ℕ) (q : ℕ → Bool) (i : ℕ) → i < n → Held n q (ownOf i (q i))
+unfolding ownOf
+held-own n q i l = go (q i) refl
   where
     go : (b : Bool) → q i ≡ b → Held n q (cond b i none)
     go true e = inr (l, e)
     go false e = inl refl
 
-pub leaf-queued : (q : ℕ → Bool) (i : ℕ) → q i ≡ true → leaf q i ≡ i
-unfolding leaf
-leaf-queued q i e = rw e
+pub own-queued : (q : ℕ → Bool) (i : ℕ) → q i ≡ true → ownOf i (q i) ≡ i
+unfolding ownOf
+own-queued q i e = rw e
 
 -- what is held and a place is queued
 pub held-queued : (n : ℕ) (q : ℕ → Bool) (w : ℕ) → n ≤ none → Held n q w → w < n → q w ≡ true
@@ -71,15 +71,15 @@ module _ (f : ℕ → Float) (n : ℕ) (q : ℕ → Bool) (few : n ≤ none) whe
   scan-held : (m : ℕ) → m ≤ n → Held n q (leastBelow f n q m)
   unfolding leastBelow
   scan-held zero l = inl refl
-  scan-held (suc m) l = better-cases f n (leastBelow f n q m) (leaf q m) (Held n q) (scan-held m (omega arith)) (held-leaf n q m (omega arith))
+  scan-held (suc m) l = better-cases f n (leastBelow f n q m) (ownOf m (q m)) (Held n q) (scan-held m (omega arith)) (held-own n q m (omega arith))
 
   scan-place : (m : ℕ) → m ≤ n → (j : ℕ) → j < m → q j ≡ true → leastBelow f n q m < n
   unfolding leastBelow
   scan-place zero l j h e = absurd (omega arith)
   scan-place (suc m) l j h e =
       ⊎-elim
-      (λ g. better-place-left f n (leastBelow f n q m) (leaf q m) (scan-place m (omega arith) j g e))
-      (λ g. better-place-right f n (leastBelow f n q m) (leaf q m) (rw (leaf-queued q m (subst (λ (v : ℕ). q v ≡ true) g e)) (omega arith)))
+      (λ g. better-place-left f n (leastBelow f n q m) (ownOf m (q m)) (scan-place m (omega arith) j g e))
+      (λ g. better-place-right f n (leastBelow f n q m) (ownOf m (q m)) (rw (own-queued q m (subst (λ (v : ℕ). q v ≡ true) g e)) (omega arith)))
       (below-or-last j m h)
 
   module _ (o : NoNan f n q) where
@@ -97,20 +97,20 @@ module _ (f : ℕ → Float) (n : ℕ) (q : ℕ → Bool) (few : n ≤ none) whe
         hv : Held n q v
         hv = scan-held m (omega arith)
 
-        hm : Held n q (leaf q m)
-        hm = held-leaf n q m (omega arith)
+        hm : Held n q (ownOf m (q m))
+        hm = held-own n q m (omega arith)
 
-        go : ((j : ℕ) → j < m → q j ≡ true → before f j v ≡ false) → (j < m) ⊎ (j ≡ m) → before f j (better f n v (leaf q m)) ≡ false
+        go : ((j : ℕ) → j < m → q j ≡ true → before f j v ≡ false) → (j < m) ⊎ (j ≡ m) → before f j (better f n v (ownOf m (q m))) ≡ false
         go r (inl g) =
             let lv : v < n = scan-place m (omega arith) j g e in
-            not-before-transitive f j v (o j (omega arith) e) (no-nan v hv lv) (better f n v (leaf q m))
-            (no-nan (better f n v (leaf q m)) (better-cases f n v (leaf q m) (Held n q) hv hm) (better-place-left f n v (leaf q m) lv))
+            not-before-transitive f j v (o j (omega arith) e) (no-nan v hv lv) (better f n v (ownOf m (q m)))
+            (no-nan (better f n v (ownOf m (q m))) (better-cases f n v (ownOf m (q m)) (Held n q) hv hm) (better-place-left f n v (ownOf m (q m)) lv))
             (r j g e)
-            (better-left f n v (leaf q m) lv)
+            (better-left f n v (ownOf m (q m)) lv)
         go r (inr g) =
-            let p : leaf q m ≡ j = leaf-queued q m (subst (λ (u : ℕ). q u ≡ true) g e) ∙ sym g in
-            subst (λ (u : ℕ). before f u (better f n v (leaf q m)) ≡ false) p
-            (better-right f n v (leaf q m) (no-nan v hv) (rw p (omega arith)) (rw p (o j (omega arith) e)))
+            let p : ownOf m (q m) ≡ j = own-queued q m (subst (λ (u : ℕ). q u ≡ true) g e) ∙ sym g in
+            subst (λ (u : ℕ). before f u (better f n v (ownOf m (q m))) ≡ false) p
+            (better-right f n v (ownOf m (q m)) (no-nan v hv) (rw p (omega arith)) (rw p (o j (omega arith) e)))
 
 -- ---- what the least is
 
@@ -147,16 +147,16 @@ module _ (f g : ℕ → Float) (n : ℕ) (q p : ℕ → Bool) (few : n ≤ none)
   pub better-alike : (a b : ℕ) → Held n q a → Held n q b → better f n a b ≡ better g n a b
   better-alike a b x y = better-same f n a b g (λ l. fg a l (held-queued n q a few x l)) (λ l. fg b l (held-queued n q b few y l))
 
-  pub leaf-same : (i : ℕ) → i < n → leaf q i ≡ leaf p i
-  unfolding leaf
-  leaf-same i l = rw (qp i l)
+  pub own-same : (i : ℕ) → i < n → ownOf i (q i) ≡ ownOf i (p i)
+  unfolding ownOf
+  own-same i l = rw (qp i l)
 
   scan-same : (m : ℕ) → m ≤ n → leastBelow f n q m ≡ leastBelow g n p m
   unfolding leastBelow
   scan-same zero l = refl
   scan-same (suc m) l =
-      better-alike (leastBelow f n q m) (leaf q m) (scan-held f n q few m (omega arith)) (held-leaf n q m (omega arith))
-      ∙ ap₂ (better g n) (scan-same m (omega arith)) (leaf-same m (omega arith))
+      better-alike (leastBelow f n q m) (ownOf m (q m)) (scan-held f n q few m (omega arith)) (held-own n q m (omega arith))
+      ∙ ap₂ (better g n) (scan-same m (omega arith)) (own-same m (omega arith))
 
   pub least-same : leastOf f n q ≡ leastOf g n p
   unfolding leastOf

@@ -10,9 +10,9 @@ use mathlib.Core.List.{List}
 use lib.Dec.{T}
 use lib.ListN.{getD}
 use lib.Ieee.{Float, isNan}
-use Rattle.queue.specs.Queue.{none, before, better, leaf, leastOf, Least, NoNan, Empty, Tree, treeWords}
+use Rattle.queue.specs.Queue.{none, before, better, ownOf, leastOf, Least, NoNan, Empty, Tree, treeWords}
 use Rattle.queue.proofs.Order.{before-irreflexive, not-before-transitive, better-place-left, better-place-right, better-left, better-right}
-use Rattle.queue.proofs.Scan.{Held, held-queued, leaf-queued, none-if-empty, empty-if-none, least-unless-empty, told-unique, least-told}
+use Rattle.queue.proofs.Scan.{Held, held-queued, own-queued, none-if-empty, empty-if-none, least-unless-empty, told-unique, least-told}
 use Rattle.queue.proofs.Words.{words-held, words-tree}
 
 -- a number is twice its half, or one more
@@ -40,7 +40,7 @@ module _ (f : ℕ → Float) (n : ℕ) (q : ℕ → Bool) (t : List ℕ) (e : Tr
 
     -- a queued place's own word is the place
     to-place : (j : ℕ) → j < n → q j ≡ true → R (getD t 1 0) j
-    to-place j l g = subst (λ (v : ℕ). R (getD t 1 0) v) (e .own j l ∙ leaf-queued q j g) (climb (n + j) (n + j) (omega arith) (omega arith) (omega arith))
+    to-place j l g = subst (λ (v : ℕ). R (getD t 1 0) v) (e .own j l ∙ own-queued q j g) (climb (n + j) (n + j) (omega arith) (omega arith) (omega arith))
 
   -- ---- word 1
 

@@ -14,18 +14,18 @@ use lib.Seq.{ext-getD}
 use lib.Ieee.{Float}
 use Rattle.counts.specs.Counts.{table}
 use Rattle.counts.proofs.Laws.{length-table, getD-table}
-use Rattle.queue.specs.Queue.{none, better, leaf, Empty, Tree, wordAt, treeWords}
+use Rattle.queue.specs.Queue.{none, better, ownOf, Empty, Tree, wordAt, treeWords}
 use Rattle.queue.proofs.Order.{better-cases}
-use Rattle.queue.proofs.Scan.{Held, held-leaf, better-alike, leaf-same}
+use Rattle.queue.proofs.Scan.{Held, held-own, better-alike, own-same}
 
--- ---- a word of the tree is a leaf, or the better of two words that stand further back
+-- ---- a word of the tree is a ownOf, or the better of two words that stand further back
 
-leaf-number : (n k : ℕ) → n ≤ k → n + (k - n) ≡ k
-leaf-number n k l = omega arith
+own-number : (n k : ℕ) → n ≤ k → n + (k - n) ≡ k
+own-number n k l = omega arith
 
 -- so what the leaves have and the better of two keeps, each word has: d is how far from the end word k stands at most
 module _ (f : ℕ → Float) (n : ℕ) (q : ℕ → Bool) (t : List ℕ) (e : Tree f n q t) where
-  module _ (P : ℕ → ℕ → Type 0) (own : (i : ℕ) → i < n → P (n + i) (leaf q i))
+  module _ (P : ℕ → ℕ → Type 0) (own : (i : ℕ) → i < n → P (n + i) (ownOf i (q i)))
       (inner : (k : ℕ) → 0 < k → k < n → P (2 * k) (getD t (2 * k) 0) → P (2 * k + 1) (getD t (2 * k + 1) 0) → P k (better f n (getD t (2 * k) 0) (getD t (2 * k + 1) 0))) where
     each-from : (d k : ℕ) → 0 < k → k < 2 * n → 2 * n ≤ k + d → P k (getD t k 0)
     each-from zero k z l h = absurd (omega arith)
@@ -36,7 +36,7 @@ module _ (f : ℕ → Float) (n : ℕ) (q : ℕ → Bool) (t : List ℕ) (e : Tr
         go (yes g) a b = rw (e .inner k z g) (inner k z g (a (omega arith) (omega arith) (omega arith)) (b (omega arith) (omega arith) (omega arith)))
         go (no g) a b =
             let i : k - n < n = omega arith in
-            subst (λ (v : ℕ). P v (getD t v 0)) (leaf-number n k (omega arith)) (rw (e .own (k - n) i) (own (k - n) i))
+            subst (λ (v : ℕ). P v (getD t v 0)) (own-number n k (omega arith)) (rw (e .own (k - n) i) (own (k - n) i))
 
     pub each-word : (k : ℕ) → 0 < k → k < 2 * n → P k (getD t k 0)
     each-word k z l = each-from (2 * n) k z l (omega arith)
@@ -44,7 +44,7 @@ module _ (f : ℕ → Float) (n : ℕ) (q : ℕ → Bool) (t : List ℕ) (e : Tr
   -- each is no place, or a queued one
   pub words-held : (k : ℕ) → 0 < k → k < 2 * n → Held n q (getD t k 0)
   words-held =
-      each-word (λ k w. Held n q w) (λ i l. held-leaf n q i l)
+      each-word (λ k w. Held n q w) (λ i l. held-own n q i l)
       (λ k z l a b. better-cases f n (getD t (2 * k) 0) (getD t (2 * k + 1) 0) (Held n q) a b)
 
 -- ---- one list alone
@@ -65,7 +65,7 @@ module _ (f : ℕ → Float) (n : ℕ) (q : ℕ → Bool) (t u : List ℕ) (a : 
 -- ---- that list
 
 module _ (f : ℕ → Float) (n : ℕ) (q : ℕ → Bool) where
-  word-own : (d k : ℕ) → 0 < d → n ≤ k → wordAt f n q d k ≡ leaf q (k - n)
+  word-own : (d k : ℕ) → 0 < d → n ≤ k → wordAt f n q d k ≡ ownOf (k - n) (q (k - n))
   unfolding wordAt
   word-own zero k z l = absurd (omega arith)
   word-own (suc d) k z l = rw (le-leb n k l)
@@ -105,7 +105,7 @@ module _ (f : ℕ → Float) (n : ℕ) (q : ℕ → Bool) where
   words-tree = record {
     size = words-length;
     unused = word-zero;
-    own = λ i l. word-of (n + i) (omega arith) (omega arith) ∙ word-own (2 * n) (n + i) (omega arith) (omega arith) ∙ ap (leaf q) (back i);
+    own = λ i l. word-of (n + i) (omega arith) (omega arith) ∙ word-own (2 * n) (n + i) (omega arith) (omega arith) ∙ ap (λ (j : ℕ). ownOf j (q j)) (back i);
     inner = λ k z l. word-of k z (omega arith) ∙ inner k z l;
   }
     where
@@ -134,7 +134,7 @@ module _ (f g : ℕ → Float) (n : ℕ) (q p : ℕ → Bool) (few : n ≤ none)
   tree-same t e = record {
     size = e .size;
     unused = e .unused;
-    own = λ i l. e .own i l ∙ leaf-same f g n q p few qp fg i l;
+    own = λ i l. e .own i l ∙ own-same f g n q p few qp fg i l;
     inner = λ k z l.
         e .inner k z l
         ∙ better-alike f g n q p few qp fg (getD t (2 * k) 0) (getD t (2 * k + 1) 0) (words-held f n q t e (2 * k) (omega arith) (omega arith)) (words-held f n q t e (2 * k + 1) (omega arith) (omega arith));
@@ -146,15 +146,15 @@ module _ (f g : ℕ → Float) (n : ℕ) (q p : ℕ → Bool) (few : n ≤ none)
 -- ---- the tree of no queued place
 
 module _ (f : ℕ → Float) (n : ℕ) (q : ℕ → Bool) (z : Empty n q) where
-  none-leaf : (i : ℕ) → i < n → none ≡ leaf q i
-  unfolding leaf
-  none-leaf i l = rw (z i l)
+  none-own : (i : ℕ) → i < n → none ≡ ownOf i (q i)
+  unfolding ownOf
+  none-own i l = rw (z i l)
 
   pub empty-tree : Tree f n q (replicate (2 * n) none)
   empty-tree = record {
     size = length-replicate (2 * n) none;
     unused = λ l. getD-replicate (2 * n) 0 none 0 (omega arith);
-    own = λ i l. getD-replicate (2 * n) (n + i) none 0 (omega arith) ∙ none-leaf i l;
+    own = λ i l. getD-replicate (2 * n) (n + i) none 0 (omega arith) ∙ none-own i l;
     inner = λ k h l.
         getD-replicate (2 * n) k none 0 (omega arith)
         ∙ sym (ap₂ (better f n) (getD-replicate (2 * n) (2 * k) none 0 (omega arith)) (getD-replicate (2 * n) (2 * k + 1) none 0 (omega arith)) ∙ both);

@@ -26,8 +26,8 @@ better f n a b = cond (leb n a) b (cond (leb n b) a (cond (before f a b) a b))
 -- ---- the queue: a set of places
 
 -- place i's own word: the place if it is queued
-unfoldable pub leaf : (ℕ → Bool) → ℕ → ℕ
-leaf q i = cond (q i) i none
+unfoldable pub ownOf : ℕ → Bool → ℕ
+ownOf i b = cond b i none
 
 -- the set with place i in it, or not in it, and else as it was
 unfoldable pub put : (ℕ → Bool) → ℕ → Bool → ℕ → Bool
@@ -36,7 +36,7 @@ put q i b j = cond (eqb j i) b (q j)
 -- the best of the queued places below m
 unfoldable pub leastBelow : (ℕ → Float) → ℕ → (ℕ → Bool) → ℕ → ℕ
 leastBelow f n q zero = none
-leastBelow f n q (suc m) = better f n (leastBelow f n q m) (leaf q m)
+leastBelow f n q (suc m) = better f n (leastBelow f n q m) (ownOf m (q m))
 
 -- 01, The search: "pop the node of least f = distance + heuristic, equal f by lower place". The place, or `none` where the queue is empty.
 unfoldable pub leastOf : (ℕ → Float) → ℕ → (ℕ → Bool) → ℕ
@@ -62,7 +62,7 @@ Empty n q = (i : ℕ) → i < n → q i ≡ false
 pub record Tree (f : ℕ → Float) (n : ℕ) (q : ℕ → Bool) (t : List ℕ) : Type 0 where
   pub size : length t ≡ 2 * n
   pub unused : 0 < n → getD t 0 0 ≡ none
-  pub own : (i : ℕ) → i < n → getD t (n + i) 0 ≡ leaf q i
+  pub own : (i : ℕ) → i < n → getD t (n + i) 0 ≡ ownOf i (q i)
   pub inner : (k : ℕ) → 0 < k → k < n → getD t k 0 ≡ better f n (getD t (2 * k) 0) (getD t (2 * k + 1) 0)
 
 -- word k of the tree, d levels deep at most
@@ -70,7 +70,7 @@ unfoldable pub wordAt : (ℕ → Float) → ℕ → (ℕ → Bool) → ℕ → �
 wordAt f n q zero k = none
 wordAt f n q (suc d) k =
     let inner = better f n (wordAt f n q d (2 * k)) (wordAt f n q d (2 * k + 1)) in
-    cond (leb n k) (leaf q (k - n)) inner
+    cond (leb n k) (ownOf (k - n) (q (k - n))) inner
 
 -- all its words: the one list that is a Tree
 unfoldable pub treeWords : (ℕ → Float) → ℕ → (ℕ → Bool) → List ℕ

@@ -2,12 +2,12 @@
 -- Assumes nothing.
 use Prim.Native.Nat.{ℕ, zero, suc, _+_, _*_, _/_, _≤_, _<_}
 use mathlib.Core.Path.{_≡_}
-use mathlib.Core.Bool.{cond}
+use mathlib.Core.Bool.{Bool, cond}
 use mathlib.Core.List.{List}
 use lib.Dec.{eqb}
 use lib.ListN.{length, getD, set}
 use lib.Ieee.{Float, nan}
-use Rattle.queue.specs.Queue.{none, better}
+use Rattle.queue.specs.Queue.{none, better, ownOf}
 
 -- ---- what is lent
 
@@ -38,6 +38,6 @@ climbed f n (suc d) k t =
     let above = climbed f n d (k / 2) (repaired f n k t) in
     cond (eqb k 0) t above
 
--- place i's own word is `w`, and the path above it is repaired
-unfoldable pub placed : (ℕ → Float) → ℕ → ℕ → ℕ → List ℕ → List ℕ
-placed f n i w t = climbed f n ((n + i) / 2) ((n + i) / 2) (set t (n + i) w)
+-- place i's own word says whether it is queued, and the path above it is repaired
+unfoldable pub placed : (ℕ → Float) → ℕ → ℕ → Bool → List ℕ → List ℕ
+placed f n i b t = climbed f n ((n + i) / 2) ((n + i) / 2) (set t (n + i) (ownOf i b))

@@ -7,7 +7,7 @@ ghost use mathlib.Core.Bool.{Bool, true, false};
 ghost use Prim.Native.Nat.{ℕ, _+_, _*_, _≤_, _<_};
 ghost use lib.Ieee.{Float};
 ghost use lib.ListN.{length, getD, replicate};
-ghost use Rattle.queue.specs.Queue.{none, before, better, put, leastOf, NoNan, Empty, Tree};
+ghost use Rattle.queue.specs.Queue.{none, before, better, ownOf, put, leastOf, NoNan, Empty, Tree};
 ghost use Rattle.queue.specs.Words.{column, Rows, Room, repaired, climbed, placed};
 
 // The word that stands for no place.
@@ -72,14 +72,25 @@ fn climb(tree: &mut [u32], fs: &[f32], stride: usize, at: usize, n: usize, from:
     }
 }
 
-// Gives place i its own word, and repairs the path above it.
-fn place(tree: &mut [u32], fs: &[f32], stride: usize, at: usize, n: usize, i: usize, word: u32)
+// Place i's own word: the place if it is queued.
+fn own(i: usize, queued: bool) -> u32
+    requires { ⌜ i < none ⌝ }
+    ensures { λ r. ⌜ r ≡ ownOf i queued ⌝ }
+{
+    if queued {
+        return i as u32;
+    }
+    NONE
+}
+
+// Says at place i's own word whether it is queued, and repairs the path above it.
+fn place(tree: &mut [u32], fs: &[f32], stride: usize, at: usize, n: usize, i: usize, queued: bool)
     requires { ⌜ Rows n stride at (now fs) ⌝ }
     requires { ⌜ Room n (now tree) ⌝ }
     requires { ⌜ i < n ⌝ }
-    ensures { λ _. ⌜ now (tree .exit) ≡ placed (column (now (fs .entry)) stride at) n i word (now (tree .entry)) ⌝ }
+    ensures { λ _. ⌜ now (tree .exit) ≡ placed (column (now (fs .entry)) stride at) n i queued (now (tree .entry)) ⌝ }
 {
-    tree[n + i] = word;
+    tree[n + i] = own(i, queued);
     climb(tree, fs, stride, at, n, (n + i) / 2);
 }
 
@@ -88,10 +99,10 @@ pub fn push(tree: &mut [u32], fs: &[f32], stride: usize, at: usize, n: usize, i:
     requires { ⌜ Rows n stride at (now fs) ⌝ }
     requires { ⌜ Room n (now tree) ⌝ }
     requires { ⌜ i < n ⌝ }
-    ensures words { λ _. ⌜ now (tree .exit) ≡ placed (column (now (fs .entry)) stride at) n i i (now (tree .entry)) ⌝ }
+    ensures words { λ _. ⌜ now (tree .exit) ≡ placed (column (now (fs .entry)) stride at) n i true (now (tree .entry)) ⌝ }
     ensures queue { λ _. ⌜ ((q : ℕ → Bool) → Tree (column (now (fs .entry)) stride at) n q (now (tree .entry)) → Tree (column (now (fs .entry)) stride at) n (put q i true) (now (tree .exit))) ⌝ }
 {
-    place(tree, fs, stride, at, n, i, i as u32);
+    place(tree, fs, stride, at, n, i, true);
 }
 
 // Takes place i out of the queue.
@@ -99,10 +110,10 @@ pub fn remove(tree: &mut [u32], fs: &[f32], stride: usize, at: usize, n: usize, 
     requires { ⌜ Rows n stride at (now fs) ⌝ }
     requires { ⌜ Room n (now tree) ⌝ }
     requires { ⌜ i < n ⌝ }
-    ensures words { λ _. ⌜ now (tree .exit) ≡ placed (column (now (fs .entry)) stride at) n i none (now (tree .entry)) ⌝ }
+    ensures words { λ _. ⌜ now (tree .exit) ≡ placed (column (now (fs .entry)) stride at) n i false (now (tree .entry)) ⌝ }
     ensures queue { λ _. ⌜ ((q : ℕ → Bool) → Tree (column (now (fs .entry)) stride at) n q (now (tree .entry)) → Tree (column (now (fs .entry)) stride at) n (put q i false) (now (tree .exit))) ⌝ }
 {
-    place(tree, fs, stride, at, n, i, NONE);
+    place(tree, fs, stride, at, n, i, false);
 }
 
 // Makes the tree of no queued place.

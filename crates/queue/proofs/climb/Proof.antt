@@ -1,5 +1,5 @@
 -- `queue::climb` meets its contract: what is left to be repaired is what was to be repaired. Assumes nothing.
-use Prim.Native.Nat.{ℕ, _*_, _/_, _<_}
+use Prim.Native.Nat.{ℕ, _*_, _<_}
 use native.Mathlib.Omega.{arith}
 use mathlib.Core.Path.{_≡_, refl, sym, ap, _∙_, subst}
 use borrow.Author.Needs.{needs}
@@ -32,11 +32,8 @@ loop-again c =
     let l = c .before .before .before .before .before .loop in
     let s = c .before .before .before .before .before .before .before .before in
     let f = column (now (s .args .fs)) (s .args .stride) (s .args .at) in
-    let e = c .before .before .repair .ensures in (
-      omega arith,
-      ap length e ∙ repaired-length f (s .args .n) (l .k) (l .tree) ∙ l .inv .1,
-      l .inv .2 ∙ climb-turn f (s .args .n) (l .k) (l .tree) (c .before .before .before .before .loop-test .taken) ∙ ap (climbed f (s .args .n) (l .k / 2) (l .k / 2)) (sym e),
-    )
+    let e = c .before .before .repair .ensures in
+    (omega arith, rw e (repaired-length f (s .args .n) (l .k) (l .tree) ∙ l .inv .1), rw e (l .inv .2 ∙ climb-turn f (s .args .n) (l .k) (l .tree) (omega arith)))
 
 same-length : tie.Need-same-length Inv-loop μ-loop
 same-length c = c .before .loop .inv .1 ∙ sym (c .before .before .before .before .pre .1 .0)

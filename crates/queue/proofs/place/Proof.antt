@@ -1,12 +1,15 @@
 -- `queue::place` meets its contract. Assumes nothing.
-use Rattle.queue.specs.Words.{placed}
-use borrow.Author.Needs.{needs}
 use Prim.Native.Nat.{_+_}
 use mathlib.Core.Path.{_∙_}
 use native.Mathlib.Omega.{arith}
 use lib.ListN.{length-set}
+use Rattle.queue.specs.Words.{placed}
+use borrow.Author.Needs.{needs}
 use Rattle.queue.proofs.place.Statement.{statement}
 use Rattle.queue.proofs.place.Tie as tie
+
+own-requires : tie.Need-own-requires
+own-requires c κs = search needs
 
 add-tree : tie.Need-add-tree
 add-tree c = search needs
@@ -22,19 +25,27 @@ add-climb c = search needs
 
 climb-requires : tie.Need-climb-requires
 climb-requires c κs =
-    let s = c .before .before .before in
-    (s .pre .0, (length-set (s .args .tree .now) (s .args .n + s .args .i) (s .args .word) ∙ s .pre .1 .0 .size, omega (arith, s .pre .1 .1)))
+    let s = c .before .before .before .before in
+    (s .pre .0, (length-set (s .args .tree .now) (s .args .n + s .args .i) (c .before .own .result) ∙ s .pre .1 .0 .size, omega (arith, s .pre .1 .1)))
 
 same-length : tie.Need-same-length
 same-length c =
-    let s = c .before .before .before .before .before .before in
-    c .before .before .climb .kept .0 ∙ length-set (s .args .tree .now) (s .args .n + s .args .i) (s .args .word)
+    let s = c .before .before .before .before .before .before .before in
+    c .before .before .climb .kept .0 ∙ length-set (s .args .tree .now) (s .args .n + s .args .i) (c .before .before .before .before .own .result)
 
 returns : tie.Need-returns
 unfolding placed
-returns c = c .before .before .climb .ensures
+returns c = rw (← c .before .before .before .before .own .ensures) (c .before .before .climb .ensures)
 
 pub place-spec : {M : Type 1} → statement M
 place-spec =
     tie.close
-    (tie.spec add-tree mul-tree slice-write-tree add-climb climb-requires same-length returns)
+    (tie.spec
+    own-requires
+    add-tree
+    mul-tree
+    slice-write-tree
+    add-climb
+    climb-requires
+    same-length
+    returns)
