@@ -5,3 +5,4 @@ pub mod Words
 pub mod Winner
 pub mod Change
 pub mod Lent
+pub mod Examples

@@ -2,16 +2,16 @@
 -- from place to place. And the better of two words: it is one of the two, and neither is before it. Assumes nothing.
 use Prim.Native.Nat.{ℕ, _≤_, _<_}
 use native.Mathlib.Omega.{arith}
-use mathlib.Core.Path.{_≡_, refl, sym, ap, ap₂, _∙_}
+use mathlib.Core.Path.{_≡_, refl, sym, ap, _∙_}
 use mathlib.Core.Bool.{Bool, true, false, not, _&&_, _||_, cond}
 use mathlib.Core.Logic.{_⊎_, inl, inr, ⊎-elim}
-use borrow.Author.Tests.{ltb-true, ltb-false, leb-true, leb-false, le-ltb, lt-leb, le-leb}
+use borrow.Author.Tests.{ltb-true, ltb-false, leb-false, le-ltb, lt-leb}
 use lib.Dec.{T, leb, ltb}
 use lib.Ieee.{Float, isNan, lt, eq}
-use Rattle.float.proofs.Rank.{Like, Ranks, ranks, is-not-before, is-equal, equal, not-before as not-lt, before as is-lt}
+use Rattle.float.proofs.Rank.{Like, ranks, is-not-before, is-equal, equal, not-before as not-lt, before as is-lt}
 use Rattle.float.proofs.Order.{lt-irreflexive}
 use Rattle.float.proofs.Tests.{untrue, and-true, or-true}
-use Rattle.queue.specs.Queue.{none, before, better}
+use Rattle.queue.specs.Queue.{before, better}
 
 -- ---- before
 

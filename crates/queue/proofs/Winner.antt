@@ -3,16 +3,16 @@
 use Prim.Native.Nat.{ℕ, zero, suc, _+_, _*_, _/_, _≤_, _<_}
 use native.Mathlib.Omega.{arith}
 use native.Mathlib.Decide.{decLt}
-use mathlib.Core.Path.{_≡_, refl, sym, ap, _∙_, subst}
+use mathlib.Core.Path.{_≡_, sym, _∙_, subst}
 use mathlib.Core.Bool.{Bool, true, false, not}
 use mathlib.Core.Logic.{_⊎_, inl, inr, ⊎-elim}
 use mathlib.Core.List.{List}
 use lib.Dec.{T}
 use lib.ListN.{getD}
 use lib.Ieee.{Float, isNan}
-use Rattle.queue.specs.Queue.{none, before, better, ownOf, leastOf, Least, NoNan, Empty, Tree, treeWords}
+use Rattle.queue.specs.Queue.{none, before, better, leastOf, Least, NoNan, Empty, Tree, treeWords}
 use Rattle.queue.proofs.Order.{before-irreflexive, not-before-transitive, better-place-left, better-place-right, better-left, better-right}
-use Rattle.queue.proofs.Scan.{Held, held-queued, own-queued, none-if-empty, empty-if-none, least-unless-empty, told-unique, least-told}
+use Rattle.queue.proofs.Scan.{held-queued, own-queued, none-if-empty, empty-if-none, least-unless-empty, told-unique, least-told}
 use Rattle.queue.proofs.Words.{words-held, words-tree}
 
 -- a number is twice its half, or one more

@@ -1,18 +1,15 @@
--- The tree's words: there is exactly one list that is the tree of a set of places, and `treeWords` is it. It depends on which places are queued and on their f
--- alone. Assumes nothing.
+-- The tree's words: there is exactly one list of 2n words that is the tree of a set of places, and `treeWords` is it. It depends on which places are queued and on
+-- their f alone. Assumes nothing.
 use Prim.Native.Nat.{ℕ, zero, suc, _+_, _-_, _*_, _≤_, _<_}
 use native.Mathlib.Omega.{arith}
 use native.Mathlib.Decide.{decLt}
 use mathlib.Core.Path.{_≡_, refl, sym, ap, ap₂, _∙_, subst}
-use mathlib.Core.Bool.{Bool, true, false, cond}
-use mathlib.Core.Logic.{_⊎_, inl, inr, ⊎-elim}
-use mathlib.Core.List.{List}
-use borrow.Author.Tests.{leb-true, leb-false, le-leb, lt-leb, ne-eqb}
-use lib.Dec.{leb, eqb}
-use lib.ListN.{length, getD, replicate, length-replicate, getD-replicate}
-use lib.Seq.{ext-getD}
+use mathlib.Core.Bool.{Bool, true, cond}
+use mathlib.Core.List.{List, _++_}
+use borrow.Author.Tests.{le-leb, lt-leb, ne-eqb}
+use lib.ListN.{length, getD, take, drop, length-append, take-append-drop, List·getD-append}
+use lib.Seq.{ext-getD, getD-take, take-all, length-take-le}
 use lib.Ieee.{Float}
-use Rattle.counts.specs.Counts.{table}
 use Rattle.counts.proofs.Laws.{length-table, getD-table}
 use Rattle.queue.specs.Queue.{none, better, ownOf, Empty, Tree, wordAt, treeWords}
 use Rattle.queue.proofs.Order.{better-cases}
@@ -55,9 +52,14 @@ module _ (f : ℕ → Float) (n : ℕ) (q : ℕ → Bool) (t u : List ℕ) (a : 
       each-word f n q t a (λ k w. w ≡ getD u k 0) (λ i l. sym (b .own i l))
       (λ k z l x y. ap₂ (better f n) x y ∙ sym (b .inner k z l))
 
-  pub tree-unique : t ≡ u
-  tree-unique = ext-getD 0 t u (a .size ∙ sym (b .size)) (λ k l. at k (subst (λ (v : ℕ). k < v) (a .size) l))
+  pub tree-unique : take (2 * n) t ≡ take (2 * n) u
+  tree-unique =
+      ext-getD 0 (take (2 * n) t) (take (2 * n) u) (long t (a .size) ∙ sym (long u (b .size)))
+      (λ k l. let h : k < 2 * n = subst (λ (v : ℕ). k < v) (long t (a .size)) l in getD-take (2 * n) t k 0 h ∙ at k h ∙ sym (getD-take (2 * n) u k 0 h))
     where
+      long : (s : List ℕ) → 2 * n ≤ length s → length (take (2 * n) s) ≡ 2 * n
+      long s l = length-take-le (2 * n) s l
+
       at : (k : ℕ) → k < 2 * n → getD t k 0 ≡ getD u k 0
       at zero l = a .unused (omega arith) ∙ sym (b .unused (omega arith))
       at (suc k) l = same-word (suc k) (omega arith) l
@@ -97,13 +99,13 @@ module _ (f : ℕ → Float) (n : ℕ) (q : ℕ → Bool) where
   unfolding treeWords
   word-zero l = getD-table (2 * n) _ 0 0 (omega arith)
 
-  words-length : length (treeWords f n q) ≡ 2 * n
+  pub words-length : length (treeWords f n q) ≡ 2 * n
   unfolding treeWords
   words-length = length-table (2 * n) _
 
   pub words-tree : Tree f n q (treeWords f n q)
   words-tree = record {
-    size = words-length;
+    size = rw words-length (omega arith);
     unused = word-zero;
     own = λ i l. word-of (n + i) (omega arith) (omega arith) ∙ word-own (2 * n) (n + i) (omega arith) (omega arith) ∙ ap (λ (j : ℕ). ownOf j (q j)) (back i);
     inner = λ k z l. word-of k z (omega arith) ∙ inner k z l;
@@ -121,11 +123,25 @@ module _ (f : ℕ → Float) (n : ℕ) (q : ℕ → Bool) where
           (word-levels d (2 * n) (2 * k) (omega arith) (omega arith) (omega arith) (omega arith) ∙ sym (word-of (2 * k) (omega arith) (omega arith)))
           (word-levels d (2 * n) (2 * k + 1) (omega arith) (omega arith) (omega arith) (omega arith) ∙ sym (word-of (2 * k + 1) (omega arith) (omega arith)))
 
-  pub tree-is : (t : List ℕ) → Tree f n q t → t ≡ treeWords f n q
-  tree-is t e = tree-unique f n q t (treeWords f n q) e words-tree
+  -- the front is these words, and the rest may be anything
+  pub tree-front : (t : List ℕ) → Tree f n q t → take (2 * n) t ≡ treeWords f n q
+  tree-front t e =
+      tree-unique f n q t (treeWords f n q) e words-tree ∙ take-all (2 * n) (treeWords f n q) (rw words-length (omega arith))
 
-  pub is-tree : (t : List ℕ) → t ≡ treeWords f n q → Tree f n q t
-  is-tree t e = subst (λ (l : List ℕ). Tree f n q l) (sym e) words-tree
+  pub tree-is : (t : List ℕ) → Tree f n q t → t ≡ treeWords f n q ++ drop (2 * n) t
+  tree-is t e = sym (take-append-drop (2 * n) t) ∙ ap (λ (s : List ℕ). s ++ drop (2 * n) t) (tree-front t e)
+
+  -- the words are the tree with whatever stands after them
+  pub is-tree : (r : List ℕ) → Tree f n q (treeWords f n q ++ r)
+  is-tree r = record {
+    size = simp (length-append, words-length) (omega arith);
+    unused = λ l. front 0 (omega arith) ∙ words-tree .unused l;
+    own = λ i l. front (n + i) (omega arith) ∙ words-tree .own i l;
+    inner = λ k z l. front k (omega arith) ∙ words-tree .inner k z l ∙ sym (ap₂ (better f n) (front (2 * k) (omega arith)) (front (2 * k + 1) (omega arith)));
+  }
+    where
+      front : (k : ℕ) → k < 2 * n → getD (treeWords f n q ++ r) k 0 ≡ getD (treeWords f n q) k 0
+      front k l = List·getD-append (treeWords f n q) r 0 k (rw words-length l)
 
 -- ---- only which places are queued matters, and their f
 
@@ -141,7 +157,8 @@ module _ (f g : ℕ → Float) (n : ℕ) (q p : ℕ → Bool) (few : n ≤ none)
   }
 
   pub words-same : treeWords f n q ≡ treeWords g n p
-  words-same = tree-is g n p (treeWords f n q) (tree-same (treeWords f n q) (words-tree f n q))
+  words-same =
+      sym (take-all (2 * n) (treeWords f n q) (rw (words-length f n q) (omega arith))) ∙ tree-front g n p (treeWords f n q) (tree-same (treeWords f n q) (words-tree f n q))
 
 -- ---- the tree of no queued place
 
@@ -150,18 +167,13 @@ module _ (f : ℕ → Float) (n : ℕ) (q : ℕ → Bool) (z : Empty n q) where
   unfolding ownOf
   none-own i l = rw (z i l)
 
-  pub empty-tree : Tree f n q (replicate (2 * n) none)
-  empty-tree = record {
-    size = length-replicate (2 * n) none;
-    unused = λ l. getD-replicate (2 * n) 0 none 0 (omega arith);
-    own = λ i l. getD-replicate (2 * n) (n + i) none 0 (omega arith) ∙ none-own i l;
-    inner = λ k h l.
-        getD-replicate (2 * n) k none 0 (omega arith)
-        ∙ sym (ap₂ (better f n) (getD-replicate (2 * n) (2 * k) none 0 (omega arith)) (getD-replicate (2 * n) (2 * k + 1) none 0 (omega arith)) ∙ both);
+  pub empty-tree : (t : List ℕ) → 2 * n ≤ length t → ((k : ℕ) → k < 2 * n → getD t k 0 ≡ none) → Tree f n q t
+  empty-tree t l h = record {
+    size = l;
+    unused = λ y. h 0 (omega arith);
+    own = λ i g. h (n + i) (omega arith) ∙ none-own i g;
+    inner = λ k y g. h k (omega arith) ∙ sym (ap₂ (better f n) (h (2 * k) (omega arith)) (h (2 * k + 1) (omega arith)) ∙ both);
   }
     where
       both : better f n none none ≡ none
       both = better-cases f n none none (λ w. w ≡ none) refl refl
-
-  pub empty-words : replicate (2 * n) none ≡ treeWords f n q
-  empty-words = tree-is f n q (replicate (2 * n) none) empty-tree

@@ -58,9 +58,9 @@ Empty n q = (i : ℕ) → i < n → q i ≡ false
 
 -- ---- the tree
 
--- Two words a place. Word n + i is place i's own, each word k from 1 below n is the better of words 2k and 2k + 1, and word 0 is `none`.
+-- The first 2n words of a list are the tree. Word n + i is place i's own, each word k from 1 below n is the better of words 2k and 2k + 1, and word 0 is `none`.
 pub record Tree (f : ℕ → Float) (n : ℕ) (q : ℕ → Bool) (t : List ℕ) : Type 0 where
-  pub size : length t ≡ 2 * n
+  pub size : 2 * n ≤ length t
   pub unused : 0 < n → getD t 0 0 ≡ none
   pub own : (i : ℕ) → i < n → getD t (n + i) 0 ≡ ownOf i (q i)
   pub inner : (k : ℕ) → 0 < k → k < n → getD t k 0 ≡ better f n (getD t (2 * k) 0) (getD t (2 * k + 1) 0)
@@ -72,6 +72,6 @@ wordAt f n q (suc d) k =
     let inner = better f n (wordAt f n q d (2 * k)) (wordAt f n q d (2 * k + 1)) in
     cond (leb n k) (ownOf (k - n) (q (k - n))) inner
 
--- all its words: the one list that is a Tree
+-- all its words: a list is a Tree just where it begins so
 unfoldable pub treeWords : (ℕ → Float) → ℕ → (ℕ → Bool) → List ℕ
 treeWords f n q = table (2 * n) (λ k. cond (eqb k 0) none (wordAt f n q (2 * n) k))

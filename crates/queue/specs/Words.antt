@@ -1,11 +1,10 @@
 -- The queue's words and the floats as they are lent, and what a push or a removal does to the words: one leaf, and the path above it. Definitions only.
 -- Assumes nothing.
 use Prim.Native.Nat.{ℕ, zero, suc, _+_, _*_, _/_, _≤_, _<_}
-use mathlib.Core.Path.{_≡_}
 use mathlib.Core.Bool.{Bool, cond}
-use mathlib.Core.List.{List}
+use mathlib.Core.List.{List, _++_}
 use lib.Dec.{eqb}
-use lib.ListN.{length, getD, set}
+use lib.ListN.{length, getD, set, drop, replicate}
 use lib.Ieee.{Float, nan}
 use Rattle.queue.specs.Queue.{none, better, ownOf}
 
@@ -20,10 +19,18 @@ pub record Rows (n stride at : ℕ) (fs : List Float) : Type 0 where
   pub inRow : at < stride
   pub rows : n * stride ≤ length fs
 
--- there are two words a place, and no place is `none`
+-- there are two words a place at least, and no place is `none`
 pub record Room (n : ℕ) (t : List ℕ) : Type 0 where
   pub few : n ≤ none
-  pub size : length t ≡ 2 * n
+  pub size : 2 * n ≤ length t
+
+-- which places are queued, read off the words: a place is where its own word is the place
+unfoldable pub queuedIn : ℕ → List ℕ → ℕ → Bool
+queuedIn n t i = eqb (getD t (n + i) 0) i
+
+-- the first m words are `none`
+unfoldable pub cleared : ℕ → List ℕ → List ℕ
+cleared m t = replicate m none ++ drop m t
 
 -- ---- one path
 

@@ -1,14 +1,14 @@
-// The winner tree: which place is popped next. It stands in lent words, two for each of the n places: word n + i is place
-// i's own, and each word k from 1 below n is the better of words 2k and 2k + 1. So word 1 is the least queued place. A
-// place's f stands in lent floats, rows of `stride`, at number `at` of its row.
+// The winner tree: which place is popped next. It stands in the first of the lent words, two for each of the n places: word
+// n + i is place i's own, and each word k from 1 below n is the better of words 2k and 2k + 1. So word 1 is the least queued
+// place. A place's f stands in lent floats, rows of `stride`, at number `at` of its row.
 
 ghost use mathlib.Core.Path.{_≡_};
 ghost use mathlib.Core.Bool.{Bool, true, false};
 ghost use Prim.Native.Nat.{ℕ, _+_, _*_, _≤_, _<_};
 ghost use lib.Ieee.{Float};
-ghost use lib.ListN.{length, getD, replicate};
+ghost use lib.ListN.{length, getD};
 ghost use Rattle.queue.specs.Queue.{none, before, better, ownOf, put, leastOf, NoNan, Empty, Tree};
-ghost use Rattle.queue.specs.Words.{column, Rows, Room, repaired, climbed, placed};
+ghost use Rattle.queue.specs.Words.{column, Rows, Room, cleared, repaired, climbed, placed};
 
 // The word that stands for no place.
 pub const NONE: u32 = 0xFFFF_FFFF;
@@ -51,7 +51,7 @@ fn better(fs: &[f32], stride: usize, at: usize, n: usize, a: u32, b: u32) -> u32
 // Makes word k the better of its two.
 fn repair(tree: &mut [u32], fs: &[f32], stride: usize, at: usize, n: usize, k: usize)
     requires { ⌜ Rows n stride at (now fs) ⌝ }
-    requires { ⌜ (length (now tree) ≡ 2 * n) × (k < n) ⌝ }
+    requires { ⌜ (2 * n ≤ length (now tree)) × (k < n) ⌝ }
     ensures { λ _. ⌜ now (tree .exit) ≡ repaired (column (now (fs .entry)) stride at) n k (now (tree .entry)) ⌝ }
 {
     let a = tree[2 * k];
@@ -62,7 +62,7 @@ fn repair(tree: &mut [u32], fs: &[f32], stride: usize, at: usize, n: usize, k: u
 // Repairs word k, then the one above it, up to word 1.
 fn climb(tree: &mut [u32], fs: &[f32], stride: usize, at: usize, n: usize, from: usize)
     requires { ⌜ Rows n stride at (now fs) ⌝ }
-    requires { ⌜ (length (now tree) ≡ 2 * n) × (from < n) ⌝ }
+    requires { ⌜ (2 * n ≤ length (now tree)) × (from < n) ⌝ }
     ensures { λ _. ⌜ now (tree .exit) ≡ climbed (column (now (fs .entry)) stride at) n from from (now (tree .entry)) ⌝ }
 {
     let mut k = from;
@@ -117,12 +117,14 @@ pub fn remove(tree: &mut [u32], fs: &[f32], stride: usize, at: usize, n: usize, 
 }
 
 // Makes the tree of no queued place.
-pub fn clear(tree: &mut [u32])
-    ensures words { λ _. ⌜ now (tree .exit) ≡ replicate (length (now (tree .entry))) none ⌝ }
-    ensures queue { λ _. ⌜ ((f : ℕ → Float) (n : ℕ) (q : ℕ → Bool) → length (now (tree .entry)) ≡ 2 * n → Empty n q → Tree f n q (now (tree .exit))) ⌝ }
+pub fn clear(tree: &mut [u32], n: usize)
+    requires { ⌜ Room n (now tree) ⌝ }
+    ensures words { λ _. ⌜ now (tree .exit) ≡ cleared (2 * n) (now (tree .entry)) ⌝ }
+    ensures queue { λ _. ⌜ ((f : ℕ → Float) (q : ℕ → Bool) → Empty n q → Tree f n q (now (tree .exit))) ⌝ }
 {
+    let words = 2 * n;
     let mut k = 0;
-    while k < tree.len() {
+    while k < words {
         tree[k] = NONE;
         k += 1;
     }
@@ -132,7 +134,7 @@ pub fn clear(tree: &mut [u32])
 pub fn least(tree: &[u32]) -> u32
     requires { ⌜ 1 < length (now tree) ⌝ }
     ensures word { λ r. ⌜ r ≡ getD (now (tree .entry)) 1 0 ⌝ }
-    ensures queue { λ r. ⌜ ((f : ℕ → Float) (n : ℕ) (q : ℕ → Bool) → n ≤ none → NoNan f n q → Tree f n q (now (tree .entry)) → r ≡ leastOf f n q) ⌝ }
+    ensures queue { λ r. ⌜ ((f : ℕ → Float) (n : ℕ) (q : ℕ → Bool) → 0 < n → n ≤ none → NoNan f n q → Tree f n q (now (tree .entry)) → r ≡ leastOf f n q) ⌝ }
 {
     tree[1]
 }

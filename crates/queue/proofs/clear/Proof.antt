@@ -1,23 +1,27 @@
 -- `queue::clear` meets its contract: the words passed are `none`. Assumes nothing.
-use Prim.Native.Nat.{ℕ, _-_, _≤_, _<_}
+use Prim.Native.Nat.{_-_, _*_, _≤_, _<_}
 use native.Mathlib.Omega.{arith}
-use mathlib.Core.Path.{_≡_, refl, sym, ap, _∙_, subst}
+use mathlib.Core.Path.{_≡_, refl, _∙_}
 use borrow.Author.Needs.{needs}
-use lib.ListN.{length, replicate, length-set}
+use lib.ListN.{length, length-set}
+use denote.Ref.{now}
 use Rattle.queue.specs.Queue.{none}
-use Rattle.queue.proofs.Lent.{cleared, cleared-one-more, cleared-all}
-use Rattle.queue.proofs.Words.{empty-tree}
+use Rattle.queue.specs.Words.{cleared}
+use Rattle.queue.proofs.Lent.{cleared-none, cleared-one-more, cleared-tree}
 use Rattle.queue.proofs.clear.Statement.{statement}
 use Rattle.queue.proofs.clear.Tie as tie
 
 abbrev Inv-loop : tie.InvT-loop
-Inv-loop tree₀ k₀ tree k = (k ≤ length tree₀) × (length tree ≡ length tree₀) × (tree ≡ cleared k tree₀)
+Inv-loop tree₀ n words k₀ tree k = (k ≤ words) × (length tree ≡ length tree₀) × (tree ≡ cleared k tree₀)
 
 abbrev μ-loop : tie.MeasureT-loop
-μ-loop tree₀ k₀ tree k = length tree₀ - k
+μ-loop tree₀ n words k₀ tree k = words - k
+
+mul-words : tie.Need-mul-words Inv-loop μ-loop
+mul-words c = search needs
 
 loop-holds : tie.Need-loop-holds Inv-loop μ-loop
-loop-holds c = (omega arith, refl, refl)
+loop-holds c = (omega arith, refl, cleared-none (c .args .tree .now))
 
 mul-tree : tie.Need-mul-tree Inv-loop μ-loop
 mul-tree c = search needs
@@ -43,10 +47,11 @@ same-length c = c .before .loop .inv .1
 
 returns : tie.Need-returns Inv-loop μ-loop
 returns c =
-    let t = c .before .before .args .tree .now in
-    let e : c .before .loop .k ≡ length t = omega arith in
-    let w : c .before .loop .tree ≡ replicate (length t) none = c .before .loop .inv .2 ∙ ap (λ (k : ℕ). cleared k t) e ∙ cleared-all t in
-    (w, λ f n q s z. rw (w, s) (empty-tree f n q z))
+    let l = c .before .loop in
+    let s = c .before .before in
+    let e : l .k ≡ 2 * s .args .n = omega arith in
+    let w : l .tree ≡ cleared (2 * s .args .n) (now (s .args .tree)) = rw (← e) (l .inv .2) in
+    (w, λ f q z. rw w (cleared-tree f (s .args .n) q (now (s .args .tree)) (s .pre .size) z))
 
 pub clear-spec : {M : Type 1} → statement M
 clear-spec =
@@ -54,6 +59,7 @@ clear-spec =
     (tie.spec
     Inv-loop
     μ-loop
+    mul-words
     loop-holds
     mul-tree
     slice-write-tree

@@ -1,8 +1,7 @@
 -- `queue::climb` meets its contract: what is left to be repaired is what was to be repaired. Assumes nothing.
-use Prim.Native.Nat.{ℕ, _*_, _<_}
+use Prim.Native.Nat.{ℕ, _<_}
 use native.Mathlib.Omega.{arith}
-use mathlib.Core.Path.{_≡_, refl, sym, ap, _∙_, subst}
-use borrow.Author.Needs.{needs}
+use mathlib.Core.Path.{_≡_, refl, sym, ap, _∙_}
 use lib.ListN.{length}
 use denote.Ref.{now}
 use Rattle.queue.specs.Words.{column, climbed}
@@ -12,17 +11,17 @@ use Rattle.queue.proofs.climb.Tie as tie
 
 abbrev Inv-loop : tie.InvT-loop
 Inv-loop tree₀ fs stride at n from k₀ tree k =
-    (k < n) × (length tree ≡ 2 * n) × (climbed (column fs stride at) n from from tree₀ ≡ climbed (column fs stride at) n k k tree)
+    (k < n) × (length tree ≡ length tree₀) × (climbed (column fs stride at) n from from tree₀ ≡ climbed (column fs stride at) n k k tree)
 
 abbrev μ-loop : tie.MeasureT-loop
 μ-loop tree₀ fs stride at n from k₀ tree k = k
 
 loop-holds : tie.Need-loop-holds Inv-loop μ-loop
-loop-holds c = (c .before .before .pre .1 .1, c .before .before .pre .1 .0, refl)
+loop-holds c = (c .before .before .pre .1 .1, refl, refl)
 
 repair-requires : tie.Need-repair-requires Inv-loop μ-loop
 repair-requires c κs =
-    (c .before .before .before .before .before .pre .0, (c .before .before .loop .inv .1, c .before .before .loop .inv .0))
+    (c .before .before .before .before .before .pre .0, (rw (c .before .before .loop .inv .1) (c .before .before .before .before .before .pre .1 .0), c .before .before .loop .inv .0))
 
 loop-less : tie.Need-loop-less Inv-loop μ-loop
 loop-less c = omega arith
@@ -36,7 +35,7 @@ loop-again c =
     (omega arith, rw e (repaired-length f (s .args .n) (l .k) (l .tree) ∙ l .inv .1), rw e (l .inv .2 ∙ climb-turn f (s .args .n) (l .k) (l .tree) (omega arith)))
 
 same-length : tie.Need-same-length Inv-loop μ-loop
-same-length c = c .before .loop .inv .1 ∙ sym (c .before .before .before .before .pre .1 .0)
+same-length c = c .before .loop .inv .1
 
 returns : tie.Need-returns Inv-loop μ-loop
 returns c =

@@ -3,7 +3,6 @@ use Rattle.queue.proofs.Winner.{root-is-least}
 use borrow.Author.Needs.{needs}
 use denote.Ref.{now}
 use mathlib.Core.Path.{refl}
-use native.Mathlib.Omega.{arith}
 use Rattle.queue.proofs.least.Statement.{statement}
 use Rattle.queue.proofs.least.Tie as tie
 
@@ -12,7 +11,7 @@ shared-slice-read-result c = search needs
 
 returns : tie.Need-returns
 returns c =
-    (refl, λ f n q few o e. root-is-least f n q (now (c .before .args .tree)) e few o (omega (arith, e .size, c .before .pre)))
+    (refl, λ f n q z few o e. root-is-least f n q (now (c .before .args .tree)) e few o z)
 
 pub least-spec : {M : Type 1} → statement M
 least-spec = tie.close (tie.spec shared-slice-read-result returns)

@@ -26,7 +26,7 @@ add-climb c = search needs
 climb-requires : tie.Need-climb-requires
 climb-requires c κs =
     let s = c .before .before .before .before in
-    (s .pre .0, (length-set (s .args .tree .now) (s .args .n + s .args .i) (c .before .own .result) ∙ s .pre .1 .0 .size, omega (arith, s .pre .1 .1)))
+    (s .pre .0, (rw (length-set (s .args .tree .now) (s .args .n + s .args .i) (c .before .own .result)) (s .pre .1 .0 .size), omega (arith, s .pre .1 .1)))
 
 same-length : tie.Need-same-length
 same-length c =
