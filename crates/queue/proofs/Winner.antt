@@ -54,6 +54,9 @@ module _ (f : ℕ → Float) (n : ℕ) (q : ℕ → Bool) (t : List ℕ) (e : Tr
   pub root-held : 0 < n → (getD t 1 0 ≡ none) ⊎ ((getD t 1 0 < n) × (q (getD t 1 0) ≡ true))
   root-held z = words-held f n q t e 1 (omega arith) (omega arith)
 
+  pub root-below : 0 < n → (getD t 1 0 ≡ none → ⊥) → getD t 1 0 < n
+  root-below z d = ⊎-elim (λ g. absurd (d g)) (λ g. g .0) (root-held z)
+
   -- `none` just where nothing is queued
   pub root-of-empty : 0 < n → Empty n q → getD t 1 0 ≡ none
   root-of-empty z = none-if-empty f n q few (getD t 1 0) (root-held z)

@@ -1,11 +1,10 @@
 -- `queue::clear` meets its contract: the words passed are `none`. Assumes nothing.
 use Prim.Native.Nat.{_-_, _*_, _≤_, _<_}
 use native.Mathlib.Omega.{arith}
-use mathlib.Core.Path.{_≡_, refl, _∙_}
+use mathlib.Core.Path.{_≡_, refl}
 use borrow.Author.Needs.{needs}
 use lib.ListN.{length, length-set}
 use denote.Ref.{now}
-use Rattle.queue.specs.Queue.{none}
 use Rattle.queue.specs.Words.{cleared}
 use Rattle.queue.proofs.Lent.{cleared-none, cleared-one-more, cleared-tree}
 use Rattle.queue.proofs.clear.Statement.{statement}
@@ -40,7 +39,7 @@ loop-again c =
     let l = c .before .loop in
     let t = c .before .before .args .tree .now in
     let h : l .k < length t = omega arith in
-    (omega arith, length-set (l .tree) (l .k) none ∙ l .inv .1, rw (l .inv .2) (cleared-one-more (l .k) t h))
+    (omega arith, simp length-set (l .inv .1), rw (l .inv .2) (cleared-one-more (l .k) t h))
 
 same-length : tie.Need-same-length Inv-loop μ-loop
 same-length c = c .before .loop .inv .1

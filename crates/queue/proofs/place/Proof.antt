@@ -1,5 +1,4 @@
 -- `queue::place` meets its contract. Assumes nothing.
-use Prim.Native.Nat.{_+_}
 use mathlib.Core.Path.{_∙_}
 use native.Mathlib.Omega.{arith}
 use lib.ListN.{length-set}
@@ -26,12 +25,10 @@ add-climb c = search needs
 climb-requires : tie.Need-climb-requires
 climb-requires c κs =
     let s = c .before .before .before .before in
-    (s .pre .0, (rw (length-set (s .args .tree .now) (s .args .n + s .args .i) (c .before .own .result)) (s .pre .1 .0 .size), omega (arith, s .pre .1 .1)))
+    (s .pre .0, (simp length-set (s .pre .1 .0 .size), omega (arith, s .pre .1 .1)))
 
 same-length : tie.Need-same-length
-same-length c =
-    let s = c .before .before .before .before .before .before .before in
-    c .before .before .climb .kept .0 ∙ length-set (s .args .tree .now) (s .args .n + s .args .i) (c .before .before .before .before .own .result)
+same-length c = c .before .before .climb .kept .0 ∙ simp length-set
 
 returns : tie.Need-returns
 unfolding placed
