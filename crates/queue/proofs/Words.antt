@@ -131,6 +131,9 @@ module _ (f : ℕ → Float) (n : ℕ) (q : ℕ → Bool) where
   pub tree-is : (t : List ℕ) → Tree f n q t → t ≡ treeWords f n q ++ drop (2 * n) t
   tree-is t e = sym (take-append-drop (2 * n) t) ∙ ap (λ (s : List ℕ). s ++ drop (2 * n) t) (tree-front t e)
 
+  pub tree-whole : (t : List ℕ) → length t ≡ 2 * n → Tree f n q t → t ≡ treeWords f n q
+  tree-whole t s e = sym (take-all (2 * n) t (omega arith)) ∙ tree-front t e
+
   -- the words are the tree with whatever stands after them
   pub is-tree : (r : List ℕ) → Tree f n q (treeWords f n q ++ r)
   is-tree r = record {
