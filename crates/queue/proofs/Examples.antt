@@ -1,8 +1,8 @@
 -- Small queues, computed: the words of the tree and the least place, with a tie, an infinity and a number of places that is no power of two. Assumes nothing.
-use Prim.Native.Nat.{ℕ, zero, suc}
+use Prim.Native.Nat.{ℕ}
 use mathlib.Core.Path.{_≡_, refl}
 use mathlib.Core.Bool.{Bool, true, false}
-use mathlib.Core.List.{List, [], _∷_}
+use mathlib.Core.List.{[], _∷_}
 use lib.ListN.{getD}
 use lib.Ieee.{Float, nan, inf, binary32, ofBits, lt, eq}
 use Rattle.counts.specs.Counts.{table}
