@@ -1,0 +1,231 @@
+-- A push or a removal: place i's own word changes, and with the path above it repaired the words are the tree again, of the set that is meant. All words are
+-- right but the one that is repaired next. Assumes nothing.
+use Prim.Native.Nat.{ℕ, zero, suc, _+_, _*_, _/_, _≤_, _<_}
+use native.Mathlib.Omega.{arith}
+use native.Mathlib.Decide.{ℕ-discrete}
+use mathlib.Core.Path.{_≡_, refl, sym, ap, ap₂, _∙_, subst}
+use mathlib.Core.Bool.{Bool, true, false, cond}
+use mathlib.Core.Logic.{_⊎_, inl, inr, ⊎-elim}
+use mathlib.Core.List.{List, _++_}
+use borrow.Author.Tests.{eq-eqb, ne-eqb}
+use lib.Dec.{eqb}
+use lib.ListN.{length, getD, set, drop, length-set}
+use lib.Seq.{getD-set-same, getD-set-other, drop-set-lt, drop-at}
+use lib.Ieee.{Float}
+use Rattle.queue.specs.Queue.{none, better, ownOf, put, Tree, treeWords}
+use Rattle.queue.specs.Words.{queuedIn, repaired, climbed, placed}
+use Rattle.queue.proofs.Words.{words-length, tree-is, is-tree, tree-same}
+
+-- ---- right but for one word
+
+pub record Except (f : ℕ → Float) (n : ℕ) (q : ℕ → Bool) (t : List ℕ) (p : ℕ) : Type 0 where
+  pub size : 2 * n ≤ length t
+  pub unused : 0 < n → getD t 0 0 ≡ none
+  pub own : (i : ℕ) → i < n → getD t (n + i) 0 ≡ ownOf i (q i)
+  pub inner : (k : ℕ) → 0 < k → k < n → (k ≡ p) ⊎ (getD t k 0 ≡ better f n (getD t (2 * k) 0) (getD t (2 * k + 1) 0))
+
+-- a store leaves the other words
+other : (t : List ℕ) (m w k : ℕ) → (k ≡ m → ⊥) → getD (set t m w) k 0 ≡ getD t k 0
+other t m w k d = getD-set-other t m k w 0 d
+
+-- a store at word m leaves word k and its two, unless m is one of the three
+rest : (f : ℕ → Float) (n : ℕ) (t : List ℕ) (m w k : ℕ) → (k ≡ m → ⊥) → (k ≡ m / 2 → ⊥)
+    → getD t k 0 ≡ better f n (getD t (2 * k) 0) (getD t (2 * k + 1) 0)
+    → getD (set t m w) k 0 ≡ better f n (getD (set t m w) (2 * k) 0) (getD (set t m w) (2 * k + 1) 0)
+rest f n t m w k a b h =
+    other t m w k a ∙ h
+    ∙ sym (ap₂ (better f n) (other t m w (2 * k) (λ e. b (omega arith))) (other t m w (2 * k + 1) (λ e. b (omega arith))))
+
+-- after word n + i was stored only the word above it may be wrong
+module _ (f : ℕ → Float) (n : ℕ) (q p : ℕ → Bool) (i w : ℕ) (t : List ℕ) (l : i < n) (v : w ≡ ownOf i (p i))
+    (s : (j : ℕ) → j < n → (j ≡ i → ⊥) → ownOf j (q j) ≡ ownOf j (p j)) where
+  starts : Tree f n q t → Except f n p (set t (n + i) w) ((n + i) / 2)
+  starts e = record {
+    size = rw (length-set t (n + i) w) (e .size);
+    unused = λ z. other t (n + i) w 0 (λ g. omega arith) ∙ e .unused z;
+    own = λ j h. at j h (ℕ-discrete j i);
+    inner = λ k z h. inside k z h (ℕ-discrete k ((n + i) / 2));
+  }
+    where
+      at : (j : ℕ) → j < n → Dec (j ≡ i) → getD (set t (n + i) w) (n + j) 0 ≡ ownOf j (p j)
+      at j h (yes g) = rw g (getD-set-same t (n + i) w 0 (omega (arith, e .size)) ∙ v)
+      at j h (no g) = other t (n + i) w (n + j) (λ x. g (omega arith)) ∙ e .own j h ∙ s j h g
+
+      inside : (k : ℕ) → 0 < k → k < n → Dec (k ≡ (n + i) / 2)
+          → (k ≡ (n + i) / 2) ⊎ (getD (set t (n + i) w) k 0 ≡ better f n (getD (set t (n + i) w) (2 * k) 0) (getD (set t (n + i) w) (2 * k + 1) 0))
+      inside k z h (yes g) = inl g
+      inside k z h (no g) = inr (rest f n t (n + i) w k (λ x. omega arith) g (e .inner k z h))
+
+module _ (f : ℕ → Float) (n : ℕ) (q : ℕ → Bool) where
+  -- after word k was repaired only the word above it may be wrong
+  turns : (k : ℕ) (t : List ℕ) → 0 < k → k < n → Except f n q t k → Except f n q (repaired f n k t) (k / 2)
+  unfolding repaired
+  turns k t z l e = record {
+    size = rw (length-set t k w) (e .size);
+    unused = λ y. other t k w 0 (λ g. omega arith) ∙ e .unused y;
+    own = λ j h. other t k w (n + j) (λ g. omega arith) ∙ e .own j h;
+    inner = λ m y h. inside m y h (ℕ-discrete m (k / 2)) (ℕ-discrete m k);
+  }
+    where
+      w : ℕ
+      w = better f n (getD t (2 * k) 0) (getD t (2 * k + 1) 0)
+
+      inside : (m : ℕ) → 0 < m → m < n → Dec (m ≡ k / 2) → Dec (m ≡ k)
+          → (m ≡ k / 2) ⊎ (getD (set t k w) m 0 ≡ better f n (getD (set t k w) (2 * m) 0) (getD (set t k w) (2 * m + 1) 0))
+      inside m y h (yes g) d = inl g
+      inside m y h (no g) (yes d) =
+          inr
+          (rw d
+          (getD-set-same t k w 0 (omega (arith, e .size))
+          ∙ sym (ap₂ (better f n) (other t k w (2 * k) (λ x. omega arith)) (other t k w (2 * k + 1) (λ x. omega arith)))))
+      inside m y h (no g) (no d) = ⊎-elim (λ x. absurd (d x)) (λ x. inr (rest f n t k w m d g x)) (e .inner m y h)
+
+  finishes : (t : List ℕ) → Except f n q t 0 → Tree f n q t
+  finishes t e = record {
+    size = e .size;
+    unused = e .unused;
+    own = e .own;
+    inner = λ k z l. ⊎-elim (λ g. absurd (omega arith)) (λ g. g) (e .inner k z l);
+  }
+
+  climbs : (d k : ℕ) (t : List ℕ) → k ≤ d → k < n → Except f n q t k → Tree f n q (climbed f n d k t)
+  unfolding climbed
+  climbs zero k t h l e = finishes t (subst (λ (v : ℕ). Except f n q t v) (omega arith) e)
+  climbs (suc d) k t h l e = go (climbs d (k / 2) (repaired f n k t)) (ℕ-discrete k 0)
+    where
+      go : (k / 2 ≤ d → k / 2 < n → Except f n q (repaired f n k t) (k / 2) → Tree f n q (climbed f n d (k / 2) (repaired f n k t)))
+          → Dec (k ≡ 0) → Tree f n q (cond (eqb k 0) t (climbed f n d (k / 2) (repaired f n k t)))
+      go r (yes g) = rw (eq-eqb k 0 g) (finishes t (subst (λ (v : ℕ). Except f n q t v) g e))
+      go r (no g) = rw (ne-eqb k 0 g) (r (omega arith) (omega arith) (turns k t (omega arith) l e))
+
+-- ---- one path
+
+-- how many words are allowed does not matter, where they are enough
+climb-levels : (f : ℕ → Float) (n d e k : ℕ) (t : List ℕ) → k ≤ d → k ≤ e → climbed f n d k t ≡ climbed f n e k t
+unfolding climbed
+climb-levels f n zero zero k t h g = refl
+climb-levels f n zero (suc e) k t h g = rw (eq-eqb k 0 (omega arith))
+climb-levels f n (suc d) zero k t h g = rw (eq-eqb k 0 (omega arith))
+climb-levels f n (suc d) (suc e) k t h g = go (climb-levels f n d e (k / 2) (repaired f n k t)) (ℕ-discrete k 0)
+  where
+    go : (k / 2 ≤ d → k / 2 ≤ e → climbed f n d (k / 2) (repaired f n k t) ≡ climbed f n e (k / 2) (repaired f n k t)) → Dec (k ≡ 0)
+        → cond (eqb k 0) t (climbed f n d (k / 2) (repaired f n k t)) ≡ cond (eqb k 0) t (climbed f n e (k / 2) (repaired f n k t))
+    go r (yes z) = rw (eq-eqb k 0 z)
+    go r (no z) = rw (ne-eqb k 0 z) (r (omega arith) (omega arith))
+
+pub repaired-length : (f : ℕ → Float) (n k : ℕ) (t : List ℕ) → length (repaired f n k t) ≡ length t
+unfolding repaired
+repaired-length f n k t = length-set t k (better f n (getD t (2 * k) 0) (getD t (2 * k + 1) 0))
+
+climbed-length : (f : ℕ → Float) (n d k : ℕ) (t : List ℕ) → length (climbed f n d k t) ≡ length t
+unfolding climbed
+climbed-length f n zero k t = refl
+climbed-length f n (suc d) k t = go (eqb k 0) (climbed-length f n d (k / 2) (repaired f n k t) ∙ repaired-length f n k t)
+  where
+    go : (s : Bool) → length (climbed f n d (k / 2) (repaired f n k t)) ≡ length t → length (cond s t (climbed f n d (k / 2) (repaired f n k t))) ≡ length t
+    go true h = refl
+    go false h = h
+
+climbed-rest : (f : ℕ → Float) (n d k : ℕ) (t : List ℕ) → k < n → drop (2 * n) (climbed f n d k t) ≡ drop (2 * n) t
+unfolding climbed repaired
+climbed-rest f n zero k t l = refl
+climbed-rest f n (suc d) k t l = go (eqb k 0) (climbed-rest f n d (k / 2) (repaired f n k t) (omega arith))
+  where
+    go : (s : Bool) → drop (2 * n) (climbed f n d (k / 2) (repaired f n k t)) ≡ drop (2 * n) (repaired f n k t)
+        → drop (2 * n) (cond s t (climbed f n d (k / 2) (repaired f n k t))) ≡ drop (2 * n) t
+    go true r = refl
+    go false r = r ∙ drop-set-lt (2 * n) t k (better f n (getD t (2 * k) 0) (getD t (2 * k + 1) 0)) (omega arith)
+
+one-turn : (f : ℕ → Float) (n d k : ℕ) (t : List ℕ) → 0 < k → climbed f n (suc d) k t ≡ climbed f n d (k / 2) (repaired f n k t)
+unfolding climbed
+one-turn f n d k t z = rw (ne-eqb k 0 (omega arith))
+
+-- a turn of the loop
+pub climb-turn : (f : ℕ → Float) (n k : ℕ) (t : List ℕ) → 0 < k → climbed f n k k t ≡ climbed f n (k / 2) (k / 2) (repaired f n k t)
+climb-turn f n k t z = go k refl
+  where
+    go : (d : ℕ) → k ≡ d → climbed f n d k t ≡ climbed f n (k / 2) (k / 2) (repaired f n k t)
+    go zero e = absurd (omega arith)
+    go (suc d) e = one-turn f n d k t (omega arith) ∙ climb-levels f n d (k / 2) (k / 2) (repaired f n k t) (omega arith) (omega arith)
+
+-- and where it ends
+pub climb-end : (f : ℕ → Float) (n : ℕ) (t : List ℕ) → climbed f n 0 0 t ≡ t
+unfolding climbed
+climb-end f n t = refl
+
+-- ---- a push and a removal
+
+pub put-same : (q : ℕ → Bool) (i : ℕ) (b : Bool) → put q i b i ≡ b
+unfolding put
+put-same q i b = rw (eq-eqb i i refl)
+
+pub put-other : (q : ℕ → Bool) (i : ℕ) (b : Bool) (j : ℕ) → (j ≡ i → ⊥) → put q i b j ≡ q j
+unfolding put
+put-other q i b j d = rw (ne-eqb j i d)
+
+placed-rest : (f : ℕ → Float) (n i : ℕ) (b : Bool) (t : List ℕ) → i < n → drop (2 * n) (placed f n i b t) ≡ drop (2 * n) t
+unfolding placed
+placed-rest f n i b t l =
+    climbed-rest f n ((n + i) / 2) ((n + i) / 2) (set t (n + i) (ownOf i b)) (omega arith) ∙ drop-set-lt (2 * n) t (n + i) (ownOf i b) (omega arith)
+
+module _ (f : ℕ → Float) (n : ℕ) (q : ℕ → Bool) (i : ℕ) (l : i < n) (b : Bool) where
+  pub placed-tree : (t : List ℕ) → Tree f n q t → Tree f n (put q i b) (placed f n i b t)
+  unfolding placed
+  placed-tree t e =
+      climbs f n (put q i b) ((n + i) / 2) ((n + i) / 2) (set t (n + i) (ownOf i b)) (omega arith) (omega arith)
+      (starts f n q (put q i b) i (ownOf i b) t l (ap (ownOf i) (sym (put-same q i b))) (λ j h d. ap (ownOf j) (sym (put-other q i b j d))) e)
+
+  -- the same as equations: the words of the one set become those of the other, and what stands after them stays
+  pub placed-words : (t : List ℕ) → Tree f n q t → placed f n i b t ≡ treeWords f n (put q i b) ++ drop (2 * n) t
+  placed-words t e =
+      tree-is f n (put q i b) (placed f n i b t) (placed-tree t e) ∙ ap (λ (s : List ℕ). treeWords f n (put q i b) ++ s) (placed-rest f n i b t l)
+
+  pub placed-front : (r : List ℕ) → placed f n i b (treeWords f n q ++ r) ≡ treeWords f n (put q i b) ++ r
+  placed-front r =
+      placed-words (treeWords f n q ++ r) (is-tree f n q r)
+      ∙ ap (λ (s : List ℕ). treeWords f n (put q i b) ++ s) (drop-at (treeWords f n q) r (2 * n) (words-length f n q))
+
+pub placed-length : (f : ℕ → Float) (n i : ℕ) (b : Bool) (t : List ℕ) → length (placed f n i b t) ≡ length t
+unfolding placed
+placed-length f n i b t = climbed-length f n ((n + i) / 2) ((n + i) / 2) (set t (n + i) (ownOf i b)) ∙ length-set t (n + i) (ownOf i b)
+
+-- ---- which places are queued, read off the words
+
+own-read : (i : ℕ) (b : Bool) → i < none → eqb (ownOf i b) i ≡ b
+unfolding ownOf
+own-read i true l = eq-eqb i i refl
+own-read i false l = ne-eqb none i (λ e. omega arith)
+
+-- the set is in the words
+pub queued-is : (f : ℕ → Float) (n : ℕ) (q : ℕ → Bool) (t : List ℕ) → n ≤ none → Tree f n q t → (i : ℕ) → i < n → queuedIn n t i ≡ q i
+unfolding queuedIn
+queued-is f n q t few e i l = rw (e .own i l) (own-read i (q i) (omega arith))
+
+-- so the words are the tree of the set that they say
+pub tree-of-own : (f : ℕ → Float) (n : ℕ) (q : ℕ → Bool) (t : List ℕ) → n ≤ none → Tree f n q t → Tree f n (queuedIn n t) t
+tree-of-own f n q t few e = tree-same f f n q (queuedIn n t) few (λ i l. sym (queued-is f n q t few e i l)) (λ i l h. refl) t e
+
+-- no leaf stands on a path
+climbed-own : (f : ℕ → Float) (n d k : ℕ) (t : List ℕ) → k < n → (m : ℕ) → n ≤ m → getD (climbed f n d k t) m 0 ≡ getD t m 0
+unfolding climbed repaired
+climbed-own f n zero k t l m h = refl
+climbed-own f n (suc d) k t l m h = go (eqb k 0) (climbed-own f n d (k / 2) (repaired f n k t) (omega arith) m h)
+  where
+    w : ℕ
+    w = better f n (getD t (2 * k) 0) (getD t (2 * k + 1) 0)
+
+    go : (s : Bool) → getD (climbed f n d (k / 2) (repaired f n k t)) m 0 ≡ getD (repaired f n k t) m 0
+        → getD (cond s t (climbed f n d (k / 2) (repaired f n k t))) m 0 ≡ getD t m 0
+    go true r = refl
+    go false r = r ∙ other t k w m (λ e. omega arith)
+
+-- whatever the words were, place i's queuing is what was put, and the other places' is as it was
+pub placed-queued : (f : ℕ → Float) (n i : ℕ) (b : Bool) (t : List ℕ) → n ≤ none → 2 * n ≤ length t → i < n → (j : ℕ) → j < n
+    → queuedIn n (placed f n i b t) j ≡ put (queuedIn n t) i b j
+unfolding queuedIn placed
+placed-queued f n i b t few s l j h = rw (climbed-own f n ((n + i) / 2) ((n + i) / 2) (set t (n + i) (ownOf i b)) (omega arith) (n + j) (omega arith)) (go (ℕ-discrete j i))
+  where
+    go : Dec (j ≡ i) → eqb (getD (set t (n + i) (ownOf i b)) (n + j) 0) j ≡ put (queuedIn n t) i b j
+    go (yes e) =
+        rw e (rw (getD-set-same t (n + i) (ownOf i b) 0 (omega arith), put-same (queuedIn n t) i b) (own-read i b (omega arith)))
+    go (no e) = rw (other t (n + i) (ownOf i b) (n + j) (λ g. e (omega arith))) (sym (put-other (queuedIn n t) i b j e))

@@ -1,0 +1,8 @@
+-- The laws of the queue and of its tree. Words, Winner and Change are the ones to read.
+pub mod Order
+pub mod Scan
+pub mod Words
+pub mod Winner
+pub mod Change
+pub mod Lent
+pub mod Examples

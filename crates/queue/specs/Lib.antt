@@ -1,0 +1,3 @@
+-- What the queue is, and the words that it stands in.
+pub mod Queue
+pub mod Words

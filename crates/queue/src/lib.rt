@@ -1,0 +1,140 @@
+// The winner tree: which place is popped next. It stands in the first of the lent words, two for each of the n places: word
+// n + i is place i's own, and each word k from 1 below n is the better of words 2k and 2k + 1. So word 1 is the least queued
+// place. A place's f stands in lent floats, rows of `stride`, at number `at` of its row.
+
+ghost use mathlib.Core.Path.{_≡_};
+ghost use mathlib.Core.Bool.{Bool, true, false};
+ghost use Prim.Native.Nat.{ℕ, _+_, _*_, _≤_, _<_};
+ghost use lib.Ieee.{Float};
+ghost use lib.ListN.{length, getD};
+ghost use Rattle.queue.specs.Queue.{none, before, better, ownOf, put, leastOf, NoNan, Empty, Tree};
+ghost use Rattle.queue.specs.Words.{column, Rows, Room, cleared, repaired, climbed, placed};
+
+// The word that stands for no place.
+pub const NONE: u32 = 0xFFFF_FFFF;
+
+// Whether place i comes before place j: its f is smaller, or equal and its number lower.
+fn before(fs: &[f32], stride: usize, at: usize, i: usize, j: usize) -> bool
+    requires { ⌜ (i * stride + at < length (now fs)) × (j * stride + at < length (now fs)) ⌝ }
+    ensures { λ r. ⌜ r ≡ before (column (now (fs .entry)) stride at) i j ⌝ }
+{
+    let x = fs[i * stride + at];
+    let y = fs[j * stride + at];
+    if x < y {
+        return true;
+    }
+    if x == y {
+        return i < j;
+    }
+    false
+}
+
+// The better of two words. One that is no place, as NONE, loses.
+fn better(fs: &[f32], stride: usize, at: usize, n: usize, a: u32, b: u32) -> u32
+    requires { ⌜ Rows n stride at (now fs) ⌝ }
+    ensures { λ r. ⌜ r ≡ better (column (now (fs .entry)) stride at) n a b ⌝ }
+{
+    let i = a as usize;
+    let j = b as usize;
+    if n <= i {
+        return b;
+    }
+    if n <= j {
+        return a;
+    }
+    if before(fs, stride, at, i, j) {
+        return a;
+    }
+    b
+}
+
+// Makes word k the better of its two.
+fn repair(tree: &mut [u32], fs: &[f32], stride: usize, at: usize, n: usize, k: usize)
+    requires { ⌜ Rows n stride at (now fs) ⌝ }
+    requires { ⌜ (2 * n ≤ length (now tree)) × (k < n) ⌝ }
+    ensures { λ _. ⌜ now (tree .exit) ≡ repaired (column (now (fs .entry)) stride at) n k (now (tree .entry)) ⌝ }
+{
+    let a = tree[2 * k];
+    let b = tree[2 * k + 1];
+    tree[k] = better(fs, stride, at, n, a, b);
+}
+
+// Repairs word k, then the one above it, up to word 1.
+fn climb(tree: &mut [u32], fs: &[f32], stride: usize, at: usize, n: usize, from: usize)
+    requires { ⌜ Rows n stride at (now fs) ⌝ }
+    requires { ⌜ (2 * n ≤ length (now tree)) × (from < n) ⌝ }
+    ensures { λ _. ⌜ now (tree .exit) ≡ climbed (column (now (fs .entry)) stride at) n from from (now (tree .entry)) ⌝ }
+{
+    let mut k = from;
+    while 0 < k {
+        repair(tree, fs, stride, at, n, k);
+        k = k / 2;
+    }
+}
+
+// Place i's own word: the place if it is queued.
+fn own(i: usize, queued: bool) -> u32
+    requires { ⌜ i < none ⌝ }
+    ensures { λ r. ⌜ r ≡ ownOf i queued ⌝ }
+{
+    if queued {
+        return i as u32;
+    }
+    NONE
+}
+
+// Says at place i's own word whether it is queued, and repairs the path above it.
+fn place(tree: &mut [u32], fs: &[f32], stride: usize, at: usize, n: usize, i: usize, queued: bool)
+    requires { ⌜ Rows n stride at (now fs) ⌝ }
+    requires { ⌜ Room n (now tree) ⌝ }
+    requires { ⌜ i < n ⌝ }
+    ensures { λ _. ⌜ now (tree .exit) ≡ placed (column (now (fs .entry)) stride at) n i queued (now (tree .entry)) ⌝ }
+{
+    tree[n + i] = own(i, queued);
+    climb(tree, fs, stride, at, n, (n + i) / 2);
+}
+
+// Queues place i.
+pub fn push(tree: &mut [u32], fs: &[f32], stride: usize, at: usize, n: usize, i: usize)
+    requires { ⌜ Rows n stride at (now fs) ⌝ }
+    requires { ⌜ Room n (now tree) ⌝ }
+    requires { ⌜ i < n ⌝ }
+    ensures words { λ _. ⌜ now (tree .exit) ≡ placed (column (now (fs .entry)) stride at) n i true (now (tree .entry)) ⌝ }
+    ensures queue { λ _. ⌜ ((q : ℕ → Bool) → Tree (column (now (fs .entry)) stride at) n q (now (tree .entry)) → Tree (column (now (fs .entry)) stride at) n (put q i true) (now (tree .exit))) ⌝ }
+{
+    place(tree, fs, stride, at, n, i, true);
+}
+
+// Takes place i out of the queue.
+pub fn remove(tree: &mut [u32], fs: &[f32], stride: usize, at: usize, n: usize, i: usize)
+    requires { ⌜ Rows n stride at (now fs) ⌝ }
+    requires { ⌜ Room n (now tree) ⌝ }
+    requires { ⌜ i < n ⌝ }
+    ensures words { λ _. ⌜ now (tree .exit) ≡ placed (column (now (fs .entry)) stride at) n i false (now (tree .entry)) ⌝ }
+    ensures queue { λ _. ⌜ ((q : ℕ → Bool) → Tree (column (now (fs .entry)) stride at) n q (now (tree .entry)) → Tree (column (now (fs .entry)) stride at) n (put q i false) (now (tree .exit))) ⌝ }
+{
+    place(tree, fs, stride, at, n, i, false);
+}
+
+// Makes the tree of no queued place.
+pub fn clear(tree: &mut [u32], n: usize)
+    requires { ⌜ Room n (now tree) ⌝ }
+    ensures words { λ _. ⌜ now (tree .exit) ≡ cleared (2 * n) (now (tree .entry)) ⌝ }
+    ensures queue { λ _. ⌜ ((f : ℕ → Float) (q : ℕ → Bool) → Empty n q → Tree f n q (now (tree .exit))) ⌝ }
+{
+    let words = 2 * n;
+    let mut k = 0;
+    while k < words {
+        tree[k] = NONE;
+        k += 1;
+    }
+}
+
+// The queued place of least f, of equal f the lowest, or NONE where nothing is queued.
+pub fn least(tree: &[u32]) -> u32
+    requires { ⌜ 1 < length (now tree) ⌝ }
+    ensures word { λ r. ⌜ r ≡ getD (now (tree .entry)) 1 0 ⌝ }
+    ensures queue { λ r. ⌜ ((f : ℕ → Float) (n : ℕ) (q : ℕ → Bool) → 0 < n → n ≤ none → NoNan f n q → Tree f n q (now (tree .entry)) → r ≡ leastOf f n q) ⌝ }
+{
+    tree[1]
+}
