@@ -20,7 +20,7 @@ use Rattle.route.specs.Judge.{sameBytes, lengthRight, findStep, judgeEnd
 use Rattle.route.specs.Verdict.{RouteLength, LeadsTo, SeedFault, StepFault, EndFault, Case}
 use Rattle.route.proofs.Find.{same-true, same-of, same-false, other-of, find-found, find-missing, find-none}
 use Rattle.route.proofs.Turns.{length-gives, begins-length, begins-wrong, begins, goes-on, stops, ends, end-accepted, end-outside, end-wrong}
-use Rattle.route.proofs.Trails.{join-next, cut-next, trail-long, trail-begins, judge-along}
+use Rattle.route.proofs.Trails.{join-next, cut-next, trail-long, route-long, trail-begins, judge-along}
 
 -- ---- 20
 
@@ -114,7 +114,7 @@ module _ {Node : Type 0} {w : World Node} (lawful : Lawful w) (file : List ℕ) 
 
   pub judge-says : (v : Judged) → Case w file v → judgeOf w file ≡ v
   judge-says Accepted r =
-      let long : length file ≡ 32 * (r .steps + 2) = ap length (r .whole) ∙ length-append (r .bytes) (w .endBytes (r .last)) ∙ omega (arith, trail-long lawful (r .trail), lawful .end-long (r .last)) in
+      let long : length file ≡ 32 * (r .steps + 2) = route-long lawful r in
       let parts = cut-next (r .steps) file (r .bytes) (w .endBytes (r .last)) (trail-long lawful (r .trail)) (take-all ((r .steps + 1 + 1) * 32) file (omega arith) ∙ r .whole) in
       judge-reaches (r .trail) (parts .0) (record { records = r .steps + 2; least = omega arith; most = omega (arith, r .few); whole = long }) 0 (omega arith)
       ∙ ends w file (r .last) (r .steps + 1)
