@@ -5,11 +5,10 @@ use mathlib.Core.Path.{_≡_, refl, sym, ap, _∙_, subst}
 use mathlib.Core.Bool.{Bool, true, false, _&&_, cond}
 use mathlib.Core.List.{List, _++_}
 use mathlib.Core.Logic.{_↔_, _⊎_, inl, inr}
-use borrow.Author.Tests.{eqb-true, eq-eqb, leb-true, le-leb}
-use lib.Dec.{eqb, leb}
-use lib.ListN.{length, take, length-append}
+use borrow.Author.Tests.{eq-eqb, le-leb}
+use lib.ListN.{length, take}
 use lib.Seq.{take-all}
-use Rattle.float.proofs.Tests.{and-true, untrue, failed}
+use Rattle.float.proofs.Tests.{untrue, failed}
 use Rattle.route.specs.declared.Sought.{Sought}
 use Rattle.route.specs.declared.Sought.the-variants.{Found, Missing}
 use Rattle.route.specs.declared.Judged.{Judged}
