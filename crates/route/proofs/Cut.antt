@@ -6,7 +6,7 @@ use mathlib.Core.Path.{_≡_, refl, sym, ap, _∙_, subst}
 use mathlib.Core.Bool.{Bool, true, false}
 use mathlib.Core.List.{List, _++_, List·Memᴰ·not-nil}
 use mathlib.Core.Logic.{_⊎_, inl, inr}
-use lib.ListN.{length, take, length-append}
+use lib.ListN.{length, take}
 use lib.Seq.{take-at, take-take, take-append-le, length-take-le}
 use Rattle.float.proofs.Tests.{failed}
 use Rattle.route.specs.declared.Step.{Step}
@@ -16,7 +16,7 @@ use Rattle.route.specs.World.{World, _∈_, Lawful, Trail, seeded, stepp
 use Rattle.route.specs.Judge.{lengthRight, judgeOf}
 use Rattle.route.specs.Verdict.{RouteLength, EndFault}
 use Rattle.route.proofs.Turns.{begins-length}
-use Rattle.route.proofs.Trails.{trail-long}
+use Rattle.route.proofs.Trails.{trail-long, route-long}
 use Rattle.route.proofs.Verdicts.{length-told, judge-says, accepted-exactly}
 
 -- A trail of e steps with which these bytes begin, and a step that leads out of its node.
@@ -49,7 +49,7 @@ module _ {Node : Type 0} {w : World Node} (lawful : Lawful w) where
     cut-fault : (r : TrueRoute w file) (long : RouteLength (take k file)) → EndFault w (take k file) (long .records - 1)
     cut-fault r long =
         let n : length (take k file) ≡ k = length-take-le k file (omega arith) in
-        let l : length file ≡ (r .steps + 1) * 32 + 32 = ap length (r .whole) ∙ length-append (r .bytes) (w .endBytes (r .last)) ∙ omega (arith, trail-long lawful (r .trail), lawful .end-long (r .last)) in
+        let l : length file ≡ 32 * (r .steps + 2) = route-long lawful r in
         let few : long .records - 2 < r .steps = omega (arith, long .whole, long .least) in
         let s = trail-passes (r .trail) (long .records - 2) few in
         let c : long .records - 1 ≡ long .records - 2 + 1 = omega (arith, long .least) in

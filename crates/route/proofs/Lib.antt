@@ -6,5 +6,6 @@ pub mod Known
 pub mod Turns
 pub mod Trails
 pub mod Verdicts
+pub mod Routes
 pub mod Cut
 pub mod Examples

@@ -132,6 +132,17 @@ pub end-record-bytes : (points : ℕ) (goal : Point) (len : Float) → recordByt
 unfolding recordBytes endRecord endBytes
 end-record-bytes points goal len = refl
 
+-- what a comparison with a record by value says of the record's bytes: for a caller that made the record and asked `is_at`
+pub seed-tested : (bytes : List ℕ) (polygon : ℕ) (start : Point) {r : Record} {b : Bool} → r ≡ seedRecord polygon start → b ≡ sameBytes bytes (recordBytes r) → sameBytes bytes (seedBytes polygon start) ≡ b
+seed-tested bytes polygon start e f = ap (sameBytes bytes) (sym (seed-record-bytes polygon start) ∙ ap recordBytes (sym e)) ∙ sym f
+
+pub step-tested : (bytes : List ℕ) (s : Step) {r : Record} {b : Bool} → r ≡ stepRecord s → b ≡ sameBytes bytes (recordBytes r) → sameBytes bytes (stepBytes s) ≡ b
+step-tested bytes s e f = ap (sameBytes bytes) (sym (step-record-bytes s) ∙ ap recordBytes (sym e)) ∙ sym f
+
+pub end-tested : (bytes : List ℕ) (points : ℕ) (goal : Point) (len : Float) {r : Record} {b : Bool} → r ≡ endRecord points goal len → b ≡ sameBytes bytes (recordBytes r)
+    → sameBytes bytes (endBytes points goal len) ≡ b
+end-tested bytes points goal len e f = ap (sameBytes bytes) (sym (end-record-bytes points goal len) ∙ ap recordBytes (sym e)) ∙ sym f
+
 pub put-keeps-length : (file : List ℕ) (i : ℕ) (bytes : List ℕ) → length (putRecord file i bytes) ≡ length file
 unfolding putRecord
 put-keeps-length file i bytes = length-sets file (i * 32) bytes

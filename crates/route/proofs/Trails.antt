@@ -7,7 +7,7 @@ use lib.ListN.{length, take, drop, length-append, length-take}
 use lib.Seq.{take-at, drop-at, take-add, length-take-le}
 use Rattle.route.specs.declared.Step.{Step}
 use Rattle.route.specs.Record.{recordAt, stepBytes}
-use Rattle.route.specs.World.{World, _∈_, Lawful, Trail, seeded, stepped}
+use Rattle.route.specs.World.{World, _∈_, Lawful, Trail, seeded, stepped, TrueRoute}
 use Rattle.route.specs.Judge.{judgeFrom}
 use Rattle.route.proofs.Bytes.{step-is-32, step-bytes-tell}
 use Rattle.route.proofs.Find.{find-is}
@@ -50,7 +50,11 @@ module _ {Node : Type 0} {w : World Node} (lawful : Lawful w) where
   trail-long seeded = lawful .seed-long
   trail-long (stepped {d = d} {bytes = bs} {s = s} t m) = length-append bs (stepBytes s) ∙ omega (arith, trail-long t, step-is-32 s)
 
-  -- "two steps out of one node with the same bytes are the same step"
+  -- how long a true route is
+  pub route-long : {file : List ℕ} (r : TrueRoute w file) → length file ≡ 32 * (r .steps + 2)
+  route-long r = ap length (r .whole) ∙ length-append (r .bytes) (w .endBytes (r .last)) ∙ omega (arith, trail-long (r .trail), lawful .end-long (r .last))
+
+  -- Two steps out of one node with the same bytes are the same step.
   pub step-is-one : (n : Node) (s t : Step) → s ∈ w .stepsFrom n → t ∈ w .stepsFrom n → stepBytes s ≡ stepBytes t → s ≡ t
   step-is-one n s t p q e = step-bytes-tell s t (lawful .steps-held n s p) (lawful .steps-held n t q) e
 

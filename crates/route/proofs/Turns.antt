@@ -1,15 +1,28 @@
 -- The judge turn by turn, as a loop over the middle records goes: how it begins, what one record does, and how it ends. Assumes nothing.
-use Prim.Native.Nat.{ℕ, suc, _+_, _-_, _≤_, _<_}
+use Prim.Native.Nat.{ℕ, suc, _+_, _-_, _*_, _/_, _%_, _≤_, _<_}
 use native.Mathlib.Omega.{arith}
 use mathlib.Core.Path.{_≡_, refl, ap, _∙_}
-use mathlib.Core.Bool.{true, false}
+use mathlib.Core.Bool.{true, false, _&&_}
 use mathlib.Core.List.{List}
+use borrow.Author.Tests.{eqb-true, leb-true}
+use lib.Dec.{eqb, leb}
+use lib.ListN.{length}
+use Rattle.float.proofs.Tests.{and-true}
 use Rattle.route.specs.declared.Step.{Step}
 use Rattle.route.specs.declared.Sought.the-variants.{Found, Missing}
 use Rattle.route.specs.declared.Judged.the-variants.{Accepted, Length, NotSeed, NotStep, NotEnd}
 use Rattle.route.specs.World.{World}
 use Rattle.route.specs.Record.{recordAt, records}
 use Rattle.route.specs.Judge.{sameBytes, lengthRight, findStep, onwards, judgeEnd, judgeFrom, judgeOf}
+
+-- a right length is whole records, of which the first and the last are two
+pub length-gives : (file : List ℕ) → lengthRight file ≡ true → (2 ≤ length file / 32) × (length file / 32 ≤ 4097) × (length file ≡ length file / 32 * 32)
+unfolding lengthRight records
+length-gives file h =
+    let a = and-true (eqb (length file % 32) 0) (leb 2 (length file / 32) && leb (length file / 32) 4097) h in
+    let b = and-true (leb 2 (length file / 32)) (leb (length file / 32) 4097) (a .1) in
+    let z : length file % 32 ≡ 0 = eqb-true (length file % 32) 0 (a .0) in
+    (leb-true 2 (length file / 32) (b .0), leb-true (length file / 32) 4097 (b .1), omega arith)
 
 module _ {Node : Type 0} (w : World Node) (file : List ℕ) where
   -- ---- how it begins
@@ -22,9 +35,9 @@ module _ {Node : Type 0} (w : World Node) (file : List ℕ) where
   unfolding judgeOf
   begins-wrong h k = rw (h, k)
 
-  pub begins : lengthRight file ≡ true → sameBytes (recordAt file 0) (w .seedBytes) ≡ true → (last : ℕ) → records file ≡ last + 1 → judgeOf w file ≡ judgeFrom w file (w .seed) 1 (last - 1)
-  unfolding judgeOf
-  begins h k last e = let n : records file - 2 ≡ last - 1 = omega arith in rw (h, k, n)
+  pub begins : lengthRight file ≡ true → sameBytes (recordAt file 0) (w .seedBytes) ≡ true → (last : ℕ) → length file / 32 ≡ last + 1 → judgeOf w file ≡ judgeFrom w file (w .seed) 1 (last - 1)
+  unfolding judgeOf records
+  begins h k last e = let n : length file / 32 - 2 ≡ last - 1 = omega arith in rw (h, k, n)
 
   -- ---- one middle record
 

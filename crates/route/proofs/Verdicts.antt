@@ -5,11 +5,10 @@ use mathlib.Core.Path.{_≡_, refl, sym, ap, _∙_, subst}
 use mathlib.Core.Bool.{Bool, true, false, _&&_, cond}
 use mathlib.Core.List.{List, _++_}
 use mathlib.Core.Logic.{_↔_, _⊎_, inl, inr}
-use borrow.Author.Tests.{eqb-true, eq-eqb, leb-true, le-leb}
-use lib.Dec.{eqb, leb}
-use lib.ListN.{length, take, length-append}
+use borrow.Author.Tests.{eq-eqb, le-leb}
+use lib.ListN.{length, take}
 use lib.Seq.{take-all}
-use Rattle.float.proofs.Tests.{and-true, untrue, failed}
+use Rattle.float.proofs.Tests.{untrue, failed}
 use Rattle.route.specs.declared.Sought.{Sought}
 use Rattle.route.specs.declared.Sought.the-variants.{Found, Missing}
 use Rattle.route.specs.declared.Judged.{Judged}
@@ -19,26 +18,17 @@ use Rattle.route.specs.World.{World, Lawful, Trail, seeded, stepped, Tru
 use Rattle.route.specs.Judge.{sameBytes, lengthRight, findStep, judgeEnd, judgeFrom, judgeOf}
 use Rattle.route.specs.Verdict.{RouteLength, LeadsTo, SeedFault, StepFault, EndFault, Case}
 use Rattle.route.proofs.Find.{same-true, same-of, same-false, other-of, find-found, find-missing, find-none}
-use Rattle.route.proofs.Turns.{begins-length, begins-wrong, begins, goes-on, stops, ends, end-accepted, end-outside, end-wrong}
-use Rattle.route.proofs.Trails.{join-next, cut-next, trail-long, trail-begins, judge-along}
+use Rattle.route.proofs.Turns.{length-gives, begins-length, begins-wrong, begins, goes-on, stops, ends, end-accepted, end-outside, end-wrong}
+use Rattle.route.proofs.Trails.{join-next, cut-next, trail-long, route-long, trail-begins, judge-along}
 
 -- ---- 20
 
 pub length-told : (file : List ℕ) → lengthRight file ≡ true → RouteLength file
-unfolding lengthRight records
 length-told file h =
-    let a = and-true (eqb (length file % 32) 0) (leb 2 (length file / 32) && leb (length file / 32) 4097) h in
-    let b = and-true (leb 2 (length file / 32)) (leb (length file / 32) 4097) (a .1) in
-    let z : length file % 32 ≡ 0 = eqb-true (length file % 32) 0 (a .0) in
-    record {
-      records = length file / 32;
-      least = leb-true 2 (length file / 32) (b .0);
-      most = leb-true (length file / 32) 4097 (b .1);
-      whole = omega arith;
-    }
+    let g = length-gives file h in
+    record { records = length file / 32; least = g .0; most = g .1; whole = omega (arith, g .2) }
 
-pub records-are : (file : List ℕ) (r : RouteLength file) → records file ≡ r .records
-unfolding records
+pub records-are : (file : List ℕ) (r : RouteLength file) → length file / 32 ≡ r .records
 records-are file r = omega (arith, r .whole)
 
 pub length-right : (file : List ℕ) → RouteLength file → lengthRight file ≡ true
@@ -106,7 +96,7 @@ module _ {Node : Type 0} {w : World Node} (lawful : Lawful w) (file : List ℕ) 
       go true a false b = subst (Case w file) (sym (begins-wrong w file a b)) (record { long = length-told file a; wrong = same-false (recordAt file 0) (w .seedBytes) b })
       go true a true b =
           let long = length-told file a in
-          let n : records file ≡ long .records = records-are file long in
+          let n : length file / 32 ≡ long .records = records-are file long in
           subst (Case w file) (sym (begins w file a b (long .records - 1) (omega (arith, long .least))))
           (from-told (long .records - 1 - 1) seeded (seed-taken b) long (omega (arith, long .least)))
 
@@ -115,7 +105,7 @@ module _ {Node : Type 0} {w : World Node} (lawful : Lawful w) (file : List ℕ) 
   pub judge-reaches : {d : ℕ} {n : Node} {bs : List ℕ} → Trail w d n bs → take ((d + 1) * 32) file ≡ bs → (long : RouteLength file) (left : ℕ) → long .records ≡ d + left + 2
       → judgeOf w file ≡ judgeFrom w file n (d + 1) left
   judge-reaches {d} t e long left c =
-      let n : records file ≡ long .records = records-are file long in
+      let n : length file / 32 ≡ long .records = records-are file long in
       let l : d + left + 1 - 1 ≡ d + left = omega arith in
       begins w file (length-right file long) (same-of (recordAt file 0) (w .seedBytes) (trail-begins lawful t file e)) (d + left + 1) (omega arith)
       ∙ ap (judgeFrom w file (w .seed) 1) l
@@ -123,7 +113,7 @@ module _ {Node : Type 0} {w : World Node} (lawful : Lawful w) (file : List ℕ) 
 
   pub judge-says : (v : Judged) → Case w file v → judgeOf w file ≡ v
   judge-says Accepted r =
-      let long : length file ≡ 32 * (r .steps + 2) = ap length (r .whole) ∙ length-append (r .bytes) (w .endBytes (r .last)) ∙ omega (arith, trail-long lawful (r .trail), lawful .end-long (r .last)) in
+      let long : length file ≡ 32 * (r .steps + 2) = route-long lawful r in
       let parts = cut-next (r .steps) file (r .bytes) (w .endBytes (r .last)) (trail-long lawful (r .trail)) (take-all ((r .steps + 1 + 1) * 32) file (omega arith) ∙ r .whole) in
       judge-reaches (r .trail) (parts .0) (record { records = r .steps + 2; least = omega arith; most = omega (arith, r .few); whole = long }) 0 (omega arith)
       ∙ ends w file (r .last) (r .steps + 1)
