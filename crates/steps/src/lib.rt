@@ -5,8 +5,10 @@ ghost use Prim.Native.Nat.{_+_, _*_, _/_, _≤_, _<_, _^_};
 ghost use lib.ListN.{length};
 ghost use Rattle.floor.specs.Stored.{floorOf};
 ghost use Rattle.steps.specs.Steps.{seedNode, rootAfter, enter};
+ghost use Rattle.steps.specs.World.{endingOf};
 use helpers::Point;
 use helpers::Segment;
+use helpers::Turn;
 use route::Step;
 use walk::SuccessorType;
 
@@ -25,6 +27,12 @@ pub struct Node {
     pub root: Point,
     pub length: f32,
     pub points: u32,
+}
+
+// How a route ends that goes on straight to the goal: how many points it has in all, and how long it is.
+pub struct Ending {
+    pub points: u32,
+    pub length: f32,
 }
 
 impl Node {
@@ -95,6 +103,33 @@ impl Node {
             root,
             length: self.length + old.distance(root),
             points: self.points + 1,
+        }
+    }
+
+    // The way from the last root to the goal, round the interval's end if it has to turn there. Without a step in the chain
+    // the goal is the only point.
+    pub fn ending(self, goal: Point) -> Ending
+        requires { ⌜ self .points + 2 < 2 ^ 32 ⌝ }
+        ensures { λ r. ⌜ r ≡ endingOf goal self ⌝ }
+    {
+        let root = self.root;
+        if self.seed {
+            return Ending {
+                points: self.points + 1,
+                length: self.length + root.distance(goal),
+            };
+        }
+        let interval = self.interval;
+        let turn = helpers::turning_point(root, goal, interval);
+        match turn {
+            Turn::Around(point) => Ending {
+                points: self.points + 2,
+                length: self.length + root.distance(point) + point.distance(goal),
+            },
+            Turn::Straight => Ending {
+                points: self.points + 1,
+                length: self.length + root.distance(goal),
+            },
         }
     }
 }

@@ -1,0 +1,48 @@
+-- The world of a floor and a question: what search and judge walk in. Document 01, "A permitted step" and "The route file", put together; and how a route ends.
+-- Assumes nothing.
+use Prim.Native.Nat.{ℕ, _+_}
+use mathlib.Core.Bool.{Bool, cond}
+use lib.Dec.{eqb}
+use lib.Ieee.{Float, binary32, add}
+use Rattle.helpers.specs.declared.point.Point.{Point}
+use Rattle.helpers.specs.declared.Turn.{Turn}
+use Rattle.helpers.specs.declared.Turn.the-variants.{Around, Straight}
+use Rattle.helpers.specs.Point.{distanceOf}
+use Rattle.helpers.specs.Helpers.{turningPointOf}
+use Rattle.floor.specs.Stored.{Floor, Question}
+use Rattle.floor.specs.Where.{polygonOf}
+use Rattle.route.specs.Record.{seedBytes, endBytes}
+use Rattle.route.specs.World.{World}
+use Rattle.steps.specs.declared.Node.{Node}
+use Rattle.steps.specs.declared.Ending.{Ending}
+use Rattle.steps.specs.Steps.{stepsFrom, seedNode, enter}
+
+-- ---- the end: "then turning_point if any; then the goal"
+
+abbrev pub lastLeg : Point → Node → Turn → Ending
+lastLeg goal node (Around point) = record { points = node .points + 2; length = add binary32 (add binary32 (node .length) (distanceOf (node .root) point)) (distanceOf point goal) }
+lastLeg goal node Straight = record { points = node .points + 1; length = add binary32 (node .length) (distanceOf (node .root) goal) }
+
+-- "With no step in the chain the goal is the only point."
+unfoldable pub endingOf : Point → Node → Ending
+endingOf goal node = cond (node .seed) (lastLeg goal node Straight) (lastLeg goal node (turningPointOf (node .root) goal (node .interval)))
+
+-- ---- the world
+
+unfoldable pub isInGoal : ℕ → Node → Bool
+isInGoal goal node = eqb (node .polygon) goal
+
+-- start and goal lie in these polygons
+unfoldable pub worldIn : Floor → Question → ℕ → ℕ → World Node
+worldIn f q start goal = record {
+  seed = seedNode (q .start) start;
+  stepsFrom = stepsFrom f goal;
+  enter = enter f;
+  inGoal = isInGoal goal;
+  seedBytes = seedBytes start (q .start);
+  endBytes = λ node. endBytes (endingOf (q .goal) node .points) (q .goal) (endingOf (q .goal) node .length);
+}
+
+-- "The lowest-numbered one counts."
+unfoldable pub worldOf : Floor → Question → World Node
+worldOf f q = worldIn f q (polygonOf f (q .start)) (polygonOf f (q .goal))
