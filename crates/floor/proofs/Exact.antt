@@ -83,9 +83,9 @@ module _ (f : Floor) where
 
 -- ---- what is given is in its case, test by test
 
-by : {A : Type 0} (P : A → Type 0) (test : Bool) {x y : A} → (test ≡ true → P x) → (test ≡ false → P y) → P (cond test x y)
-by P true t e = t refl
-by P false t e = e refl
+when : {A : Type 0} (P : A → Type 0) (test : Bool) (x : A) {y : A} → (test ≡ true → P x) → (test ≡ false → P y) → P (cond test x y)
+when P true x t e = t refl
+when P false x t e = e refl
 
 past : {m n : ℕ} → m < n → n ≤ m → ⊥
 past {m} {n} l h = lt-irrefl m (lt-of-lt-of-le l h)
@@ -105,15 +105,15 @@ module _ (s : ℕ) (vs ps : List ℕ) where
   floor-given : FloorCase s vs ps (floorLookOf s vs ps)
   unfolding floorLookOf
   floor-given =
-      by (FloorCase s vs ps) (not (lengthRight 8 1024 vs)) (λ e. holds-not (whole-decided 8 1024 vs) (not-true _ e)) (λ a.
+      when (FloorCase s vs ps) (not (lengthRight 8 1024 vs)) (Faulty VertexLength) (λ e. holds-not (whole-decided 8 1024 vs) (not-true _ e)) (λ a.
       let v = whole-decided 8 1024 vs .0 (not-false _ a) in
-      by (FloorCase s vs ps) (not (lengthRight (s * 8) 512 ps)) (λ e. (v, holds-not (whole-decided (s * 8) 512 ps) (not-true _ e))) (λ b.
+      when (FloorCase s vs ps) (not (lengthRight (s * 8) 512 ps)) (Faulty PolygonLength) (λ e. (v, holds-not (whole-decided (s * 8) 512 ps) (not-true _ e))) (λ b.
       let lists : Lists s vs ps = record { vertices-whole = v; polygons-whole = whole-decided (s * 8) 512 ps .0 (not-false _ b) } in
-      by (FloorCase s vs ps) (ltb (badVertex f) (length (f .vertices))) (λ e. (lists, vertices-told f .lowest (ltb-true _ _ e))) (λ c.
+      when (FloorCase s vs ps) (ltb (badVertex f) (length (f .vertices))) (Faulty (Vertex (badVertex f))) (λ e. (lists, vertices-told f .lowest (ltb-true _ _ e))) (λ c.
       let vertices = vertices-told f .none .0 (ltb-false _ _ c) in
-      by (FloorCase s vs ps) (ltb (badCorners f) (length (f .polygons))) (λ e. (lists, vertices, corners-told f .lowest (ltb-true _ _ e))) (λ d.
+      when (FloorCase s vs ps) (ltb (badCorners f) (length (f .polygons))) (Faulty (CornersFault (badCorners f))) (λ e. (lists, vertices, corners-told f .lowest (ltb-true _ _ e))) (λ d.
       let corners = corners-told f .none .0 (ltb-false _ _ d) in
-      by (FloorCase s vs ps) (ltb (badLinks f) (length (f .polygons))) (λ e. (lists, vertices, corners, links-told f .lowest (ltb-true _ _ e))) (λ g.
+      when (FloorCase s vs ps) (ltb (badLinks f) (length (f .polygons))) (Faulty (LinksFault (badLinks f))) (λ e. (lists, vertices, corners, links-told f .lowest (ltb-true _ _ e))) (λ g.
       (lists, record { vertices = vertices; corners = corners; links = links-told f .none .0 (ltb-false _ _ g) }))))))
 
   -- ---- and in its case each is given
@@ -156,10 +156,10 @@ module _ (s : ℕ) (vs ps : List ℕ) where
     asked-given : FloorCase s vs ps Sound → Case s vs ps question (askOf f question)
     unfolding askOf
     asked-given h =
-        by (Case s vs ps question) (not (questionRight question)) (λ e. (h, holds-not (asked-decided question) (not-true _ e))) (λ a.
+        when (Case s vs ps question) (not (questionRight question)) (Refused Question) (λ e. (h, holds-not (asked-decided question) (not-true _ e))) (λ a.
         let asked = asked-decided question .0 (not-false _ a) in
-        by (Case s vs ps question) (leb (length (f .polygons)) (polygonOf f start)) (λ e. (h, asked, λ i. past (in-some f start .1 i) (leb-true _ _ e))) (λ b.
-        by (Case s vs ps question) (leb (length (f .polygons)) (polygonOf f goal)) (λ e. (h, asked, in-some f start .0 (leb-false _ _ b), λ i. past (in-some f goal .1 i) (leb-true _ _ e))) (λ c.
+        when (Case s vs ps question) (leb (length (f .polygons)) (polygonOf f start)) (Refused StartOutside) (λ e. (h, asked, λ i. past (in-some f start .1 i) (leb-true _ _ e))) (λ b.
+        when (Case s vs ps question) (leb (length (f .polygons)) (polygonOf f goal)) (Refused GoalOutside) (λ e. (h, asked, in-some f start .0 (leb-false _ _ b), λ i. past (in-some f goal .1 i) (leb-true _ _ e))) (λ c.
         (h, asked, polygon-is-least f start (leb-false _ _ b), polygon-is-least f goal (leb-false _ _ c)))))
 
     given : Case s vs ps question (lookOf s vs ps question)

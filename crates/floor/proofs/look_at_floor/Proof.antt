@@ -1,4 +1,6 @@
-use mathlib.Core.Path.{sym, _∙_}
+use mathlib.Core.Path.{refl, sym, ap, _∙_}
+use mathlib.Core.Bool.{not}
+use Rattle.helpers.proofs.Cases.{taken}
 use native.Mathlib.Omega.{arith}
 use Rattle.floor.proofs.Decided.{length-decided}
 use Rattle.floor.proofs.Records.{vertex-count, polygon-count}
@@ -17,8 +19,7 @@ length-right-requires c κs = search needs
 returns : tie.Need-returns
 unfolding floorLookOf
 returns c =
-    let c1 = c .before in
-    rw (← c1 .length-right .ensures, not-true (c .before .length-right .result) (c .if1 .taken))
+    taken _ _ (ap not (sym (c .before .length-right .ensures)) ∙ c .if1 .taken) refl
 
 mul-length-right : tie.Need-mul-length-right
 mul-length-right c = search needs
