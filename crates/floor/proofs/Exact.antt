@@ -114,7 +114,7 @@ module _ (s : ℕ) (vs ps : List ℕ) where
       when (FloorCase s vs ps) (ltb (badCorners f) (length (f .polygons))) (Faulty (CornersFault (badCorners f))) (λ e. (lists, vertices, corners-told f .lowest (ltb-true _ _ e))) (λ d.
       let corners = corners-told f .none .0 (ltb-false _ _ d) in
       when (FloorCase s vs ps) (ltb (badLinks f) (length (f .polygons))) (Faulty (LinksFault (badLinks f))) (λ e. (lists, vertices, corners, links-told f .lowest (ltb-true _ _ e))) (λ g.
-      (lists, record { vertices = vertices; corners = corners; links = links-told f .none .0 (ltb-false _ _ g) }))))))
+      let accepted : FloorCase s vs ps Sound = (lists, record { vertices = vertices; corners = corners; links = links-told f .none .0 (ltb-false _ _ g) }) in accepted)))))
 
   -- ---- and in its case each is given
 

@@ -28,7 +28,7 @@ returns c =
     let c4 = c3 .before in
     let c5 = c4 .before in
     let c6 = c5 .before in
-    rw (← c6 .corner-count .ensures .0) (and-taken _ _ (le-leb _ _ (c5 .if1 .taken)) (rw (corner-slots _ _ _, ← c4 .corners-end .ensures, c3 .if2 .taken, ← c2 .corners-distinct .ensures, c1 .if3 .taken) (c .corners-listed .ensures)))
+    rw (← c6 .corner-count .ensures .0) (and-taken _ _ (le-leb 3 _ (c5 .if1 .taken)) (rw (corner-slots _ _ _, ← c4 .corners-end .ensures, c3 .if2 .taken, ← c2 .corners-distinct .ensures, c1 .if3 .taken) (c .corners-listed .ensures)))
 
 returns-2 : tie.Need-returns-2
 unfolding cornersRight
