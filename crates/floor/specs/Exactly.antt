@@ -67,7 +67,7 @@ module _ (slots : ℕ) (vertices polygons : List ℕ) where
   abbrev polygonCount : ℕ
   polygonCount = length (floor .polygons)
 
-  -- 2 to 6, of a floor alone. "4, 5, 6 .. also return the lowest record at fault"
+  -- 2 to 6, of a floor alone. "4, 5, 6 .. also return the lowest record at fault". `Sound` is the answer Accepted, `Accepted` what 01 asks of a floor.
   abbrev pub FloorCase : FloorLook → Type 0
   FloorCase (Faulty VertexLength) = ¬ Whole 8 1024 vertices
   FloorCase (Faulty PolygonLength) = Whole 8 1024 vertices × ¬ Whole (slots * 8) 512 polygons
