@@ -1,14 +1,14 @@
--- A test g of each number decides a statement R of it, both ways. Then `every` decides that R holds of all, and `first` at a test that fails gives the
--- lowest number at fault: said once, for any test and any statement. Assumes nothing.
+-- A test g of each number decides a statement R of it, both ways. Then `every` decides that R holds of all, `first` at a test that fails gives the
+-- lowest number at fault, and `first` at the test itself the least of which R holds: said once, for any test and any statement. Assumes nothing.
 use Prim.Native.Nat.{ℕ, _≤_, _<_}
-use native.Mathlib.Nat.{lt-trans, le-of-lt, le-refl, lt-irrefl}
+use native.Mathlib.Nat.{lt-trans, lt-of-le-of-lt, le-of-lt, le-of-eq, le-antisymm, le-refl, lt-irrefl}
 use mathlib.Core.Path.{_≡_, refl, sym, ap, _∙_, subst}
 use mathlib.Core.Bool.{Bool, true, false, not}
 use mathlib.Core.Logic.{_↔_}
 use borrow.Author.Tests.{not-true, not-false}
 use lib.Dec.{T}
-use Rattle.counts.specs.Counts.{every, first}
-use Rattle.counts.proofs.Laws.{every-true, every-at, first-is, first-before, first-at}
+use Rattle.counts.specs.Counts.{every, first, Lowest, Least}
+use Rattle.counts.proofs.Laws.{every-true, every-at, first-is, first-le, first-before, first-at, first-below}
 
 -- ---- one test
 
@@ -21,11 +21,11 @@ not-holds false d n = refl
 
 -- ---- each of n
 
--- the lowest at fault: it is one of the n, everything before it is right, and it is not
-pub record Lowest (n : ℕ) (R : ℕ → Type 0) (m : ℕ) : Type 0 where
-  pub listed : m < n
-  pub before : (k : ℕ) → k < m → R k
-  pub fault : R m → ⊥
+-- what an answer tells that names the lowest at fault, and n where there is none
+pub record Tells (n : ℕ) (R : ℕ → Type 0) (answer : ℕ) : Type 0 where
+  pub lowest : answer < n → Lowest n R answer
+  pub is-lowest : (m : ℕ) → Lowest n R m → answer ≡ m
+  pub none : n ≤ answer ↔ ((k : ℕ) → k < n → R k)
 
 module _ (n : ℕ) (g : ℕ → Bool) (R : ℕ → Type 0) (d : (k : ℕ) → k < n → g k ≡ true ↔ R k) where
   pub every-decides : every n g ≡ true ↔ ((k : ℕ) → k < n → R k)
@@ -49,4 +49,29 @@ module _ (n : ℕ) (g : ℕ → Bool) (R : ℕ → Type 0) (d : (k : ℕ) → k 
   none-at-fault = (
     (λ e k l. d k l .0 (not-false (g k) (first-before n (λ k. not (g k)) k (subst (λ (v : ℕ). k < v) (sym e) l)))),
     (λ h. first-is n (λ k. not (g k)) n (le-refl n) (λ k l. ap not (d k l .1 (h k l))) (λ l. absurd (lt-irrefl n l))),
+  )
+
+  pub first-tells-fault : Tells n R (first n (λ k. not (g k)))
+  first-tells-fault = record {
+    lowest = first-is-lowest;
+    is-lowest = lowest-is-first;
+    none = ((λ h. none-at-fault .0 (le-antisymm (first-le n (λ k. not (g k))) h)), (λ h. le-of-eq (sym (none-at-fault .1 h))));
+  }
+
+  -- the first of which the test holds is the least that is so
+  pub first-is-least : first n g < n → Least n R (first n g)
+  first-is-least l = record {
+    listed = l;
+    before = λ k h r. holds-not (d k (lt-trans h l)) (first-before n g k h) r;
+    here = d (first n g) l .0 (first-at n g l);
+  }
+
+  pub least-is-first : (m : ℕ) → Least n R m → first n g ≡ m
+  least-is-first m b = first-is n g m (le-of-lt (b .listed)) (λ k h. not-holds (g k) (d k (lt-trans h (b .listed))) (b .before k h)) (λ h. d m h .1 (b .here))
+
+  -- some is so just where the first is not the end
+  pub some-is-so : (first n g < n) ↔ ((k : ℕ) × (k < n) × R k)
+  some-is-so = (
+    (λ l. (first n g, l, d (first n g) l .0 (first-at n g l))),
+    (λ s. lt-of-le-of-lt (first-below n g (s .0) (s .1) (d (s .0) (s .1) .1 (s .2))) (s .1)),
   )

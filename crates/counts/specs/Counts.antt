@@ -1,5 +1,6 @@
--- What holds of every number below n, of some, which is the first, and the list of what a function gives at each. Definitions only. Assumes nothing.
-use Prim.Native.Nat.{ℕ, zero, suc}
+-- What holds of every number below n, of some, which is the first, and the list of what a function gives at each; and what it says to be the lowest at
+-- fault, or the least of which something holds. Definitions only. Assumes nothing.
+use Prim.Native.Nat.{ℕ, zero, suc, _<_}
 use mathlib.Core.Bool.{Bool, true, false, _&&_, _||_, cond}
 use mathlib.Core.List.{List, [], _∷_, _++_}
 use lib.Dec.{ltb}
@@ -21,3 +22,17 @@ first (suc n) f = cond (ltb (first n f) n) (first n f) (cond (f n) n (suc n))
 unfoldable pub table {ℓ} : {A : Type ℓ} → ℕ → (ℕ → A) → List A
 table zero f = []
 table (suc n) f = table n f ++ (f n ∷ [])
+
+-- ---- the same in words
+
+-- the lowest at fault: it is one of the n, everything before it is right, and it is not
+pub record Lowest (n : ℕ) (R : ℕ → Type 0) (m : ℕ) : Type 0 where
+  pub listed : m < n
+  pub before : (k : ℕ) → k < m → R k
+  pub fault : R m → ⊥
+
+-- the least that is so: it is one of the n, nothing before it is so, and it is
+pub record Least (n : ℕ) (R : ℕ → Type 0) (m : ℕ) : Type 0 where
+  pub listed : m < n
+  pub before : (k : ℕ) → k < m → R k → ⊥
+  pub here : R m

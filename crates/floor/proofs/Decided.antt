@@ -31,7 +31,7 @@ through d f g = ((λ h. f (d .0 h)), (λ h. d .1 (g h)))
 same : {a : Bool} → a ≡ true ↔ a ≡ true
 same = ((λ h. h), (λ h. h))
 
-equal : (m n : ℕ) → eqb m n ≡ true ↔ m ≡ n
+pub equal : (m n : ℕ) → eqb m n ≡ true ↔ m ≡ n
 equal m n = (eqb-true m n, eq-eqb m n)
 
 -- ---- 2 and 3

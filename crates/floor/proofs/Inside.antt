@@ -52,6 +52,10 @@ module _ (s : ℕ) (vs ps : List ℕ) (p : ℕ) (h : Listed s vs ps p) where
       go false e (yes d) = corner-below (i + 1) d
       go false e (no d) = absurd (eqb-false (corner (polygonAt s ps p) (i + 1)) unused e (behind-unused (i + 1) (omega arith)))
 
+  -- both ends of an edge have a place in an array that has one for every vertex
+  pub ends-inside : (i : ℕ) → i < cornerCount (polygonAt s ps p) → length vs / 8 ≤ 1024 → (corner (polygonAt s ps p) i < 1024) × (cornerAfter (polygonAt s ps p) i < 1024)
+  ends-inside i l most = (lt-of-lt-of-le (corner-below i l) most, lt-of-lt-of-le (after-below i l) most)
+
   pub edge-stored : (i : ℕ) → i < cornerCount (polygonAt s ps p)
       → edge (floorOf s vs ps) p i ≡ (plusOf (vertexAt vs (corner (polygonAt s ps p) i)) origin, plusOf (vertexAt vs (cornerAfter (polygonAt s ps p) i)) origin)
   unfolding edge

@@ -1,7 +1,8 @@
--- The laws of the stored floor that belong to no one function. Decided is the one to read.
+-- The laws of the stored floor that belong to no one function. Exact is the one to read, beside specs/Exactly.
 pub mod Records
 pub mod Linked
 pub mod Decided
-pub mod Inside
+pub mod Exact
 pub mod Looked
+pub mod Inside
 pub mod Turned

@@ -1,15 +1,15 @@
 -- Where a record's words are, and that they are inside: said once for any number of slots. Assumes nothing.
-use Prim.Native.Nat.{ℕ, _+_, _*_, _/_, _≤_, _<_}
-use native.Mathlib.Nat.{le-trans, mul-le-mul-right, div-mul-le-self}
+use Prim.Native.Nat.{ℕ, _+_, _-_, _*_, _/_, _≤_, _<_}
+use native.Mathlib.Nat.{zero-add, le-trans, mul-le-mul-right, div-mul-le-self}
 use native.Mathlib.Omega.{arith}
 use mathlib.Core.Path.{_≡_, refl, sym, _∙_, subst}
 use mathlib.Core.List.{List, []}
 use lib.Dec.{eqb}
 use lib.ListN.{length, getD, List·getD-eq-default}
 use Rattle.counts.specs.Counts.{table}
-use Rattle.counts.proofs.Laws.{length-table, getD-table, first-le}
-use Rattle.word.specs.Word.{wordAt}
-use Rattle.floor.specs.Stored.{unused, origin, vertexAt, polygonAt, floorOf, corner, neighbour, cornerCount, polygon}
+use Rattle.counts.proofs.Laws.{every-same, length-table, getD-table, first-le}
+use Rattle.floor.specs.Stored.{unused, origin, vertexAt, slotAt, polygonAt, floorOf, corner, neighbour, cornerCount, polygon}
+use Rattle.floor.specs.Tests.{restUnused}
 
 -- record p is inside: as many bytes as its size stand from p times the size on
 whole : (L d p : ℕ) → p < L / d → (p + 1) * d ≤ L
@@ -18,34 +18,40 @@ whole L d p h = let g : p + 1 ≤ L / d = omega arith in le-trans (mul-le-mul-ri
 pub vertex-inside : (L v : ℕ) → v < L / 8 → v * 8 + 8 ≤ L
 vertex-inside L v h = omega arith
 
-module _ (L s p i : ℕ) (listed : p < L / (s * 8)) (slot : i < s) where
-  pub corner-inside : p * (s * 8) + i * 4 + 4 ≤ L
-  corner-inside = omega (arith, whole L (s * 8) p listed)
-
-  pub neighbour-inside : p * (s * 8) + s * 4 + i * 4 + 4 ≤ L
-  neighbour-inside = omega (arith, whole L (s * 8) p listed)
+module _ (L s p i : ℕ) (listed : p < L / (s * 8)) (slot : i < s + s) where
+  pub slot-within : p * (s * 8) + i * 4 + 4 ≤ L
+  slot-within = omega (arith, whole L (s * 8) p listed)
 
 module _ (s : ℕ) (bytes : List ℕ) (p i : ℕ) where
-  pub corner-read : i < s → corner (polygonAt s bytes p) i ≡ wordAt bytes (p * (s * 8) + i * 4)
+  pub corner-read : i < s → corner (polygonAt s bytes p) i ≡ slotAt s bytes p i
   unfolding corner polygonAt
-  corner-read h = getD-table s (λ k. wordAt bytes (p * (s * 8) + k * 4)) i unused h
+  corner-read h = getD-table s (slotAt s bytes p) i unused h
 
-  pub neighbour-read : i < s → neighbour (polygonAt s bytes p) i ≡ wordAt bytes (p * (s * 8) + s * 4 + i * 4)
+  pub neighbour-read : i < s → neighbour (polygonAt s bytes p) i ≡ slotAt s bytes p (s + i)
   unfolding neighbour polygonAt
-  neighbour-read h = getD-table s (λ k. wordAt bytes (p * (s * 8) + s * 4 + k * 4)) i unused h
+  neighbour-read h = getD-table s (λ k. slotAt s bytes p (s + k)) i unused h
 
   pub corner-beyond : s ≤ i → corner (polygonAt s bytes p) i ≡ unused
   unfolding corner polygonAt
-  corner-beyond h = List·getD-eq-default (table s (λ k. wordAt bytes (p * (s * 8) + k * 4))) unused (subst (λ (v : ℕ). v ≤ i) (sym (length-table s (λ k. wordAt bytes (p * (s * 8) + k * 4)))) h)
+  corner-beyond h = List·getD-eq-default (table s (slotAt s bytes p)) unused (subst (λ (v : ℕ). v ≤ i) (sym (length-table s (slotAt s bytes p))) h)
 
 module _ (s : ℕ) (bytes : List ℕ) (p : ℕ) where
   pub corner-slots : length (polygonAt s bytes p .corners) ≡ s
   unfolding polygonAt
-  corner-slots = length-table s (λ k. wordAt bytes (p * (s * 8) + k * 4))
+  corner-slots = length-table s (slotAt s bytes p)
 
   pub neighbour-slots : length (polygonAt s bytes p .neighbours) ≡ s
   unfolding polygonAt
-  neighbour-slots = length-table s (λ k. wordAt bytes (p * (s * 8) + s * 4 + k * 4))
+  neighbour-slots = length-table s (λ k. slotAt s bytes p (s + k))
+
+  -- the test of the slots behind the corners, on the record's words
+  pub rest-corners : (n : ℕ) → restUnused (corner (polygonAt s bytes p)) s n ≡ restUnused (λ i. slotAt s bytes p (0 + i)) s n
+  unfolding restUnused
+  rest-corners n = every-same (s - n) (λ k. eqb (corner (polygonAt s bytes p) (n + k)) unused) (λ k. eqb (slotAt s bytes p (0 + (n + k))) unused) (λ k l. rw (zero-add (n + k), corner-read s bytes p (n + k) (omega arith)))
+
+  pub rest-neighbours : (n : ℕ) → restUnused (neighbour (polygonAt s bytes p)) s n ≡ restUnused (λ i. slotAt s bytes p (s + i)) s n
+  unfolding restUnused
+  rest-neighbours n = every-same (s - n) (λ k. eqb (neighbour (polygonAt s bytes p) (n + k)) unused) (λ k. eqb (slotAt s bytes p (s + (n + k))) unused) (λ k l. rw (neighbour-read s bytes p (n + k) (omega arith)))
 
   -- a polygon has no more corners than slots
   pub count-slots : cornerCount (polygonAt s bytes p) ≤ s

@@ -3,3 +3,4 @@ pub mod Tests
 pub mod Accepted
 pub mod Where
 pub mod Look
+pub mod Exactly

@@ -33,11 +33,14 @@ pub record Question : Type 0 where
 unfoldable pub vertexAt : List ℕ → ℕ → Point
 vertexAt bytes v = fromBitsOf (wordAt bytes (v * 8)) (wordAt bytes (v * 8 + 4))
 
--- "Polygon list: 64-byte records, eight u32 corners, then eight u32 neighbours." Eight is the number of slots, here any.
+-- "Polygon list: 64-byte records, eight u32 corners, then eight u32 neighbours." Eight is the number of slots of each kind, here any.
+unfoldable pub slotAt : ℕ → List ℕ → ℕ → ℕ → ℕ
+slotAt slots bytes p i = wordAt bytes (p * (slots * 8) + i * 4)
+
 unfoldable pub polygonAt : ℕ → List ℕ → ℕ → Polygon
 polygonAt slots bytes p = record {
-  corners = table slots (λ i. wordAt bytes (p * (slots * 8) + i * 4));
-  neighbours = table slots (λ i. wordAt bytes (p * (slots * 8) + slots * 4 + i * 4));
+  corners = table slots (slotAt slots bytes p);
+  neighbours = table slots (λ i. slotAt slots bytes p (slots + i));
 }
 
 -- "A question is 16 bytes: start x, y, goal x, y, .. used as given."

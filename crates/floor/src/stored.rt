@@ -5,7 +5,7 @@ ghost use Prim.Native.Nat.{_+_, _*_, _/_, _≤_, _<_};
 ghost use mathlib.Core.Bool.{cond};
 ghost use lib.ListN.{length};
 ghost use Rattle.helpers.specs.Point.{plusOf};
-ghost use Rattle.floor.specs.Stored.{unused, origin, vertexAt, polygonAt, questionOf, corner, neighbour, cornerCount, cornerAfter};
+ghost use Rattle.floor.specs.Stored.{unused, origin, vertexAt, slotAt, polygonAt, questionOf, corner, neighbour, cornerCount, cornerAfter};
 use helpers::Point;
 
 // No vertex and no polygon has this number: an unused slot, or a wall.
@@ -35,12 +35,20 @@ pub fn used_vertex(vertices: &[u8], v: usize) -> Point
     stored_vertex(vertices, v).plus(Point::new(0.0, 0.0))
 }
 
+// The number in a slot of a polygon's record: the corners' slots come first, then the neighbours'.
+pub fn slot(polygons: &[u8], slots: usize, p: usize, i: usize) -> u32
+    requires { ⌜ (slots ≤ 16) × (i < slots + slots) × (p < length (now polygons) / (slots * 8)) ⌝ }
+    ensures { λ r. ⌜ r ≡ slotAt slots (now (polygons .entry)) p i ⌝ }
+{
+    word::read(polygons, p * (slots * 8) + i * 4)
+}
+
 // The vertex number in a corner's slot.
 pub fn corner(polygons: &[u8], slots: usize, p: usize, i: usize) -> u32
     requires { ⌜ (slots ≤ 16) × (i < slots) × (p < length (now polygons) / (slots * 8)) ⌝ }
     ensures { λ r. ⌜ r ≡ corner (polygonAt slots (now (polygons .entry)) p) i ⌝ }
 {
-    word::read(polygons, p * (slots * 8) + i * 4)
+    slot(polygons, slots, p, i)
 }
 
 // The polygon number in a neighbour's slot.
@@ -48,7 +56,7 @@ pub fn neighbour(polygons: &[u8], slots: usize, p: usize, i: usize) -> u32
     requires { ⌜ (slots ≤ 16) × (i < slots) × (p < length (now polygons) / (slots * 8)) ⌝ }
     ensures { λ r. ⌜ r ≡ neighbour (polygonAt slots (now (polygons .entry)) p) i ⌝ }
 {
-    word::read(polygons, p * (slots * 8) + slots * 4 + i * 4)
+    slot(polygons, slots, p, slots + i)
 }
 
 // How many corners a polygon has: those before the first unused slot.

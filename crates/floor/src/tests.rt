@@ -1,11 +1,11 @@
 // The tests 2 to 6, each of one list or one record.
 
 ghost use mathlib.Core.Path.{_≡_};
-ghost use Prim.Native.Nat.{_*_, _/_, _≤_, _<_, _^_};
+ghost use Prim.Native.Nat.{_+_, _*_, _/_, _≤_, _<_, _^_};
 ghost use lib.Dec.{eqb, ltb};
 ghost use lib.ListN.{length};
 ghost use Rattle.counts.specs.Counts.{every};
-ghost use Rattle.floor.specs.Stored.{unused, floorOf, polygonAt, corner, neighbour, cornerCount};
+ghost use Rattle.floor.specs.Stored.{unused, floorOf, slotAt, polygonAt, cornerCount};
 ghost use Rattle.floor.specs.Tests.{lengthRight, coordinateRight, pointRight, restUnused, unlikeEarlier, distinct, cornersListed, cornersRight, isBack, namesBack, linkRight, linksRight};
 use crate::stored::UNUSED;
 use crate::stored::corner;
@@ -13,6 +13,7 @@ use crate::stored::corner_after;
 use crate::stored::corner_count;
 use crate::stored::neighbour;
 use crate::stored::polygon_count;
+use crate::stored::slot;
 use helpers::Point;
 
 // 2 and 3: whole records of a size, from 1 to a limit.
@@ -43,15 +44,15 @@ fn is_unused(slot: u32) -> bool
     slot == UNUSED
 }
 
-// 5: every corner's slot from n on is unused.
-fn corners_end(polygons: &[u8], slots: usize, p: usize, n: usize) -> bool
-    requires { ⌜ (slots ≤ 16) × (n ≤ slots) × (p < length (now polygons) / (slots * 8)) ⌝ }
-    ensures { λ r. ⌜ r ≡ restUnused (corner (polygonAt slots (now (polygons .entry)) p)) slots n ⌝ }
+// 5 and 6: of the slots of one kind, which begin at a slot, every one from the n-th on is unused.
+fn rest_unused(polygons: &[u8], slots: usize, p: usize, begin: usize, n: usize) -> bool
+    requires { ⌜ (slots ≤ 16) × (begin ≤ slots) × (n ≤ slots) × (p < length (now polygons) / (slots * 8)) ⌝ }
+    ensures { λ r. ⌜ r ≡ restUnused (λ i. slotAt slots (now (polygons .entry)) p (begin + i)) slots n ⌝ }
 {
     let rest = slots - n;
     let mut i = 0;
     while i < rest {
-        if !is_unused(corner(polygons, slots, p, n + i)) {
+        if !is_unused(slot(polygons, slots, p, begin + (n + i))) {
             return false;
         }
         i += 1;
@@ -118,7 +119,7 @@ pub fn corners_right(polygons: &[u8], slots: usize, p: usize, count: usize) -> b
 {
     let n = corner_count(polygons, slots, p);
     3 <= n
-        && (corners_end(polygons, slots, p, n)
+        && (rest_unused(polygons, slots, p, 0, n)
             && (corners_distinct(polygons, slots, p, n)
                 && corners_listed(polygons, slots, p, n, count)))
 }
@@ -169,22 +170,6 @@ fn link_right(vertices: &[u8], polygons: &[u8], slots: usize, p: usize, i: usize
     names_back(polygons, slots, q, p as u32, a, b)
 }
 
-// 6: every neighbour's slot from n on is unused.
-fn neighbours_end(polygons: &[u8], slots: usize, p: usize, n: usize) -> bool
-    requires { ⌜ (slots ≤ 16) × (n ≤ slots) × (p < length (now polygons) / (slots * 8)) ⌝ }
-    ensures { λ r. ⌜ r ≡ restUnused (neighbour (polygonAt slots (now (polygons .entry)) p)) slots n ⌝ }
-{
-    let rest = slots - n;
-    let mut i = 0;
-    while i < rest {
-        if !is_unused(neighbour(polygons, slots, p, n + i)) {
-            return false;
-        }
-        i += 1;
-    }
-    true
-}
-
 // 6: each of the n edges' links.
 fn all_linked(vertices: &[u8], polygons: &[u8], slots: usize, p: usize, n: usize) -> bool
     requires { ⌜ (0 < slots) × (slots ≤ 16) × (n ≤ slots) × (p < length (now polygons) / (slots * 8)) × (p < 2 ^ 32) ⌝ }
@@ -206,5 +191,5 @@ pub fn links_right(vertices: &[u8], polygons: &[u8], slots: usize, p: usize) -> 
     ensures { λ r. ⌜ r ≡ linksRight (floorOf slots (now (vertices .entry)) (now (polygons .entry))) p ⌝ }
 {
     let n = corner_count(polygons, slots, p);
-    all_linked(vertices, polygons, slots, p, n) && neighbours_end(polygons, slots, p, n)
+    all_linked(vertices, polygons, slots, p, n) && rest_unused(polygons, slots, p, slots, n)
 }

@@ -3,8 +3,7 @@ use Rattle.counts.proofs.Laws.{first-is}
 use borrow.Author.Count.{below-none, below-more}
 use borrow.Author.Needs.{needs}
 use borrow.Author.Tests.{not-false}
-use borrow.Author.Tests.{not-true}
-use mathlib.Core.Path.{_≡_, sym}
+use mathlib.Core.Path.{_≡_, sym, ap, _∙_}
 use native.Mathlib.Omega.{arith}
 use Rattle.floor.specs.Look.{badCorners}
 use mathlib.Core.Bool.{true, false, not}
@@ -32,7 +31,7 @@ corners-right-requires c κs = search needs
 
 returns : tie.Need-returns Inv-loop μ-loop
 unfolding badCorners
-returns c = rw (polygon-count _ _ _, ← c .before .before .before .before .polygon-count .ensures) (sym (first-is _ _ _ (omega arith) (c .before .before .before .loop .inv .1) (λ l. rw (← c .before .corners-right .ensures, not-true (c .before .corners-right .result) (c .if1 .taken)))))
+returns c = rw (polygon-count _ _ _, ← c .before .before .before .before .polygon-count .ensures) (sym (first-is _ _ _ (omega arith) (c .before .before .before .loop .inv .1) (λ l. ap not (sym (c .before .corners-right .ensures)) ∙ c .if1 .taken)))
 
 add-p : tie.Need-add-p Inv-loop μ-loop
 add-p c = omega arith

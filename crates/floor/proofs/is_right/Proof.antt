@@ -15,7 +15,7 @@ returns : tie.Need-returns
 returns c =
     let c1 = c .before in
     let c2 = c1 .before in
-    rw (← c2 .edge .ensures, ← c1 .side .ensures, ← c .same-side .ensures)
+    rw (← c2 .edge .ensures, ← c1 .side .ensures) (c .same-side .ensures)
 
 pub is-right-spec : {M : Type 1} → statement M
 is-right-spec =

@@ -1,4 +1,7 @@
-use mathlib.Core.Path.{sym, _∙_}
+use mathlib.Core.Path.{refl, sym, ap, _∙_}
+use mathlib.Core.Bool.{not}
+use denote.Ref.{now}
+use Rattle.helpers.proofs.Cases.{taken}
 use native.Mathlib.Omega.{arith}
 use Rattle.floor.proofs.Decided.{length-decided}
 use Rattle.floor.proofs.Records.{vertex-count, polygon-count}
@@ -7,6 +10,7 @@ use borrow.Author.Tests.{le-ltb}
 use borrow.Author.Tests.{lt-ltb}
 use borrow.Author.Tests.{not-false}
 use borrow.Author.Tests.{not-true}
+use Rattle.floor.specs.Tests.{lengthRight}
 use Rattle.floor.specs.Look.{floorLookOf}
 use Rattle.floor.proofs.look_at_floor.Statement.{statement}
 use Rattle.floor.proofs.look_at_floor.Tie as tie
@@ -17,8 +21,7 @@ length-right-requires c κs = search needs
 returns : tie.Need-returns
 unfolding floorLookOf
 returns c =
-    let c1 = c .before in
-    rw (← c1 .length-right .ensures, not-true (c .before .length-right .result) (c .if1 .taken))
+    taken {test = not (lengthRight 8 1024 (now (c .before .before .before .before .args .vertices)))} _ _ (ap not (sym (c .before .length-right .ensures)) ∙ c .if1 .taken) refl
 
 mul-length-right : tie.Need-mul-length-right
 mul-length-right c = search needs

@@ -17,7 +17,7 @@ unfolding questionOf
 returns c =
     let c1 = c .before in
     let c2 = c1 .before in
-    rw (← c2 .read .ensures, ← c1 .read2 .ensures, ← c .from-bits .ensures)
+    rw (← c2 .read .ensures, ← c1 .read2 .ensures) (c .from-bits .ensures)
 
 pub question-goal-spec : {M : Type 1} → statement M
 question-goal-spec =

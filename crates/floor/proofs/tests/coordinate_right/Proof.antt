@@ -1,10 +1,12 @@
+use mathlib.Core.Path.{refl}
+use Rattle.helpers.proofs.Cases.{and-taken}
 use Rattle.floor.specs.Tests.{coordinateRight}
 use Rattle.floor.proofs.tests.coordinate_right.Statement.{statement}
 use Rattle.floor.proofs.tests.coordinate_right.Tie as tie
 
 returns : tie.Need-returns
 unfolding coordinateRight
-returns c = rw (c .if1 .taken)
+returns c = and-taken _ _ (c .if1 .taken) refl
 
 returns-2 : tie.Need-returns-2
 unfolding coordinateRight

@@ -1,4 +1,5 @@
-use Rattle.floor.proofs.Records.{corner-slots}
+use Rattle.helpers.proofs.Cases.{and-taken}
+use Rattle.floor.proofs.Records.{corner-slots, rest-corners}
 use borrow.Author.Needs.{needs}
 use borrow.Author.Tests.{le-leb}
 use borrow.Author.Tests.{lt-leb}
@@ -9,8 +10,8 @@ use Rattle.floor.proofs.tests.corners_right.Tie as tie
 corner-count-requires : tie.Need-corner-count-requires
 corner-count-requires c κs = search needs
 
-corners-end-requires : tie.Need-corners-end-requires
-corners-end-requires c κs = search needs
+rest-unused-requires : tie.Need-rest-unused-requires
+rest-unused-requires c κs = search needs
 
 corners-distinct-requires : tie.Need-corners-distinct-requires
 corners-distinct-requires c κs = search needs
@@ -27,7 +28,7 @@ returns c =
     let c4 = c3 .before in
     let c5 = c4 .before in
     let c6 = c5 .before in
-    rw (← c6 .corner-count .ensures .0, le-leb _ _ (c5 .if1 .taken), corner-slots _ _ _, ← c4 .corners-end .ensures, c3 .if2 .taken, ← c2 .corners-distinct .ensures, c1 .if3 .taken, ← c .corners-listed .ensures)
+    rw (← c6 .corner-count .ensures .0) (and-taken _ _ (le-leb 3 _ (c5 .if1 .taken)) (rw (corner-slots _ _ _, rest-corners _ _ _ _, ← c4 .rest-unused .ensures, c3 .if2 .taken, ← c2 .corners-distinct .ensures, c1 .if3 .taken) (c .corners-listed .ensures)))
 
 returns-2 : tie.Need-returns-2
 unfolding cornersRight
@@ -37,7 +38,7 @@ returns-2 c =
     let c3 = c2 .before in
     let c4 = c3 .before in
     let c5 = c4 .before in
-    rw (← c5 .corner-count .ensures .0, le-leb _ _ (c4 .if1 .taken), corner-slots _ _ _, ← c3 .corners-end .ensures, c2 .if2 .taken, ← c1 .corners-distinct .ensures, c .if3 .left)
+    rw (← c5 .corner-count .ensures .0, le-leb _ _ (c4 .if1 .taken), corner-slots _ _ _, rest-corners _ _ _ _, ← c3 .rest-unused .ensures, c2 .if2 .taken, ← c1 .corners-distinct .ensures, c .if3 .left)
 
 returns-3 : tie.Need-returns-3
 unfolding cornersRight
@@ -45,7 +46,7 @@ returns-3 c =
     let c1 = c .before in
     let c2 = c1 .before in
     let c3 = c2 .before in
-    rw (← c3 .corner-count .ensures .0, le-leb _ _ (c2 .if1 .taken), corner-slots _ _ _, ← c1 .corners-end .ensures, c .if2 .left)
+    rw (← c3 .corner-count .ensures .0, le-leb _ _ (c2 .if1 .taken), corner-slots _ _ _, rest-corners _ _ _ _, ← c1 .rest-unused .ensures, c .if2 .left)
 
 returns-4 : tie.Need-returns-4
 unfolding cornersRight
@@ -56,4 +57,4 @@ returns-4 c =
 pub corners-right-spec : {M : Type 1} → statement M
 corners-right-spec =
     tie.close
-    (tie.spec corner-count-requires corners-end-requires corners-distinct-requires corners-listed-requires returns returns-2 returns-3 returns-4)
+    (tie.spec corner-count-requires rest-unused-requires corners-distinct-requires corners-listed-requires returns returns-2 returns-3 returns-4)

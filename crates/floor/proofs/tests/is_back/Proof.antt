@@ -1,3 +1,4 @@
+use mathlib.Core.Path.{refl}
 use borrow.Author.Needs.{needs}
 use borrow.Author.Tests.{eq-eqb}
 use borrow.Author.Tests.{ne-eqb}
@@ -21,7 +22,7 @@ returns c =
     let c2 = c1 .before in
     let c3 = c2 .before in
     let c4 = c3 .before in
-    rw (← c4 .corner .ensures, eq-eqb _ _ (c3 .if1 .taken), ← c2 .corner-after .ensures, eq-eqb _ _ (c1 .if2 .taken), ← c .neighbour .ensures)
+    rw (← c4 .corner .ensures, eq-eqb _ _ (c3 .if1 .taken), ← c2 .corner-after .ensures, eq-eqb _ _ (c1 .if2 .taken), ← c .neighbour .ensures) refl
 
 returns-2 : tie.Need-returns-2
 unfolding isBack

@@ -1,9 +1,10 @@
 -- `floor::turns::mark_edge` meets its contract: both ends of an edge are vertices of the list. Assumes nothing.
-use native.Mathlib.Nat.{lt-of-lt-of-le}
+use native.Mathlib.Omega.{arith}
+use mathlib.Core.Path.{refl}
 use borrow.Author.Tests.{eq-eqb, ne-eqb}
 use denote.Ref.{now}
 use Rattle.floor.specs.Where.{markEdge}
-use Rattle.floor.proofs.Inside.{slot-inside, corner-below, after-below}
+use Rattle.floor.proofs.Inside.{slot-inside, ends-inside}
 use borrow.Author.Needs.{needs}
 use Rattle.floor.proofs.turns.mark_edge.Statement.{statement}
 use Rattle.floor.proofs.turns.mark_edge.Tie as tie
@@ -24,14 +25,21 @@ cast-b : tie.Need-cast-b
 cast-b c = search needs
 
 element-write-marks : tie.Need-element-write-marks
-element-write-marks c = rw (c .before .corner .ensures) (lt-of-lt-of-le (corner-below (c .before .before .before .before .before .before .args .slots) (now (c .before .before .before .before .before .before .args .vertices)) (now (c .before .before .before .before .before .before .args .polygons)) (c .before .before .before .before .before .before .args .p) (c .before .before .before .before .before .before .pre .0) (c .before .before .before .before .before .before .args .i) (c .before .before .before .before .before .before .pre .1 .0)) (c .before .before .before .before .before .before .pre .1 .1))
+element-write-marks c =
+    let s = c .before .before .before .before .before .before in
+    let ends = ends-inside (s .args .slots) (now (s .args .vertices)) (now (s .args .polygons)) (s .args .p) (s .pre .0) (s .args .i) (s .pre .1 .0) (s .pre .1 .1) in
+    omega (arith, c .before .corner .ensures, ends .0)
 
+-- both ends are told, so that a wrong end is refused for what it marks, and not for where it writes
 element-write-marks-2 : tie.Need-element-write-marks-2
-element-write-marks-2 c = rw (c .corner-after .ensures) (lt-of-lt-of-le (after-below (c .before .before .before .before .before .before .args .slots) (now (c .before .before .before .before .before .before .args .vertices)) (now (c .before .before .before .before .before .before .args .polygons)) (c .before .before .before .before .before .before .args .p) (c .before .before .before .before .before .before .pre .0) (c .before .before .before .before .before .before .args .i) (c .before .before .before .before .before .before .pre .1 .0)) (c .before .before .before .before .before .before .pre .1 .1))
+element-write-marks-2 c =
+    let s = c .before .before .before .before .before .before in
+    let ends = ends-inside (s .args .slots) (now (s .args .vertices)) (now (s .args .polygons)) (s .args .p) (s .pre .0) (s .args .i) (s .pre .1 .0) (s .pre .1 .1) in
+    omega (arith, c .before .corner .ensures, c .corner-after .ensures, ends .0, ends .1)
 
 returns : tie.Need-returns
 unfolding markEdge
-returns c = rw (← c .before .before .before .neighbour .ensures, eq-eqb _ _ (c .before .before .if1 .taken), ← c .before .corner .ensures, ← c .corner-after .ensures)
+returns c = rw (← c .before .before .before .neighbour .ensures, eq-eqb _ _ (c .before .before .if1 .taken), ← c .before .corner .ensures, ← c .corner-after .ensures) refl
 
 returns-2 : tie.Need-returns-2
 unfolding markEdge
