@@ -121,6 +121,15 @@ impl Mesh {
         in_order(&search)
     }
 
+    /// What add_node makes of a segment that is seen from a node and leads on with the same root: one node or none.
+    pub fn added(&self, node: Node, segment: Segment, goal: Place) -> Vec<Node> {
+        let mut search = SearchInstance::setup(self, (node.2, &[]), (goal.0, &[goal.1]), HashSet::new());
+        let [_, polygon, first, second] = node.0;
+        search.add_node(node.2, polygon, (segment.0, first), (segment.1, second), &search_node(node));
+        search.flush_nodes();
+        in_order(&search)
+    }
+
     /// The nodes that a search popped until it ended or popped so many, and the path if one was found.
     /// A stall limit that no count reaches switches the stall recording off.
     pub fn searched(&self, start: Place, goal: Place, stall_limit: Option<u32>, most: usize) -> (Vec<Node>, Option<Path>) {
