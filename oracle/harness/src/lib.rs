@@ -2,8 +2,10 @@
 
 pub mod answer;
 pub mod floor;
+pub mod floors;
 pub mod functions;
 pub mod inputs;
+pub mod listed;
 pub mod random;
 pub mod search01;
 pub mod steps01;
