@@ -252,14 +252,20 @@ impl Floors {
         Asked { goal, goal_polygon, node, left }
     }
 
-    /// Where so many steps lead from a seed, or fewer where none goes on.
+    /// Where so many steps lead from a seed, or fewer where none goes on. From the goal polygon none does, so it is mostly kept out of.
     fn walked(&mut self, floor: &Floor, goal: u32) -> (u32, Node) {
-        let start = self.point(floor);
         let any = self.random.below(floor.polygons.len()) as u32;
+        let mut start = self.point(floor);
+        if floor.polygon_of(start) == Some(goal) {
+            start = self.point(floor);
+        }
         let mut left = floor.polygon_of(start).unwrap_or(any);
         let mut node = seed(start, left);
         for _ in 0..self.random.below(STEPS) {
-            let steps = steps_from(floor, goal, &node);
+            let mut steps = steps_from(floor, goal, &node);
+            if self.random.below(8) != 0 {
+                steps.retain(|step| step.polygon != goal);
+            }
             if steps.is_empty() {
                 break;
             }

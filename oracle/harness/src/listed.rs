@@ -148,7 +148,7 @@ fn is_one_way(floor: &Floor, p: u32) -> bool {
 const CHAINED: usize = 64;
 
 /// What the Rust puts into its queue when it expands a node, where `following` has all switches as it has them: without a
-/// node whose heuristic is NaN or whose root is known to be nearer, and after chains in place.
+/// node whose distance or heuristic is NaN or whose root is known to be nearer, and after chains in place.
 pub fn queued(switches: Switches, floor: &Floor, asked: &Asked) -> Vec<Node> {
     let mut records = vec![(asked.node.root, 0.0)];
     let (mut asked, mut distance) = (*asked, 0.0);
@@ -156,7 +156,7 @@ pub fn queued(switches: Switches, floor: &Floor, asked: &Asked) -> Vec<Node> {
         let mut made = Vec::new();
         for node in following(switches, floor, &asked) {
             let leg = if node.root != asked.node.root { asked.node.root.distance(node.root) } else { 0.0 };
-            if Mesh::heuristic(node.root, asked.goal, node.interval).is_nan() {
+            if (distance + leg).is_nan() || Mesh::heuristic(node.root, asked.goal, node.interval).is_nan() {
                 continue;
             }
             match records.iter_mut().find(|record| record.0 == node.root) {

@@ -10,7 +10,6 @@ mod ours;
 mod searches;
 mod steps;
 mod text;
-mod whole;
 
 /// One point on one input, in words.
 pub struct Shown {
@@ -42,6 +41,5 @@ fn main() -> ExitCode {
     }
     let agreed = all.iter().filter(|shown| shown.agreed).count();
     println!("{} inputs show a difference, {agreed} show none where the texts part, {unexpected} are not as listed", all.len() - agreed);
-    unexpected += whole::counted();
     ExitCode::from((unexpected != 0) as u8)
 }

@@ -1,18 +1,22 @@
 //! Whether the list of the steps' differences is whole: on random nodes the Rust's answers come out when document 01's steps
-//! take each listed point the Rust's way, and other answers when one of them is left as it was.
+//! take each listed point the Rust's way, and other answers when one of them is left as it was. Needs the Rust side only.
 
+use std::process::ExitCode;
+
+use glam::Vec2;
 use harness::floors::{Asked, Floors};
 use harness::listed::{following, queued, Switches};
-use harness::steps01::{enter, steps_from, Node};
+use harness::steps01::{enter, steps_from, Node, Segment};
 
-use crate::text::{as_node, Node as Seen};
-
-const FLOORS: usize = 20_000;
+const FLOORS: usize = 40_000;
+/// Nodes of one floor.
 const NODES: usize = 50;
 const SEED: u64 = 0x5EED_0001;
 
-/// Prints the counts, and answers how many nodes are not as they should be.
-pub fn counted() -> usize {
+/// A node of the original's: the polygon left, the polygon entered and the edge's vertices; the interval; the root.
+type Seen = ([u32; 4], Segment, Vec2);
+
+fn main() -> ExitCode {
     let mut floors = Floors::new(SEED);
     let (mut nodes, mut skipped, mut on, mut off) = (0, 0, 0, 0);
     let mut left_out = Switches::all_but_one().map(|(name, switches)| (name, switches, 0));
@@ -26,7 +30,7 @@ pub fn counted() -> usize {
             let steps = steps_from(&floor, goal_polygon, &node);
             let ours: Vec<Node> = steps.iter().map(|step| enter(&floor, &node, step)).collect();
             off += (bits(&following(Switches::OFF, &floor, &asked)) != bits(&ours)) as usize;
-            // Neither side makes such a node, or steps out of the goal polygon.
+            // Neither side makes a node whose interval is a point, or steps out of the goal polygon.
             if node.polygon == goal_polygon || (!node.seed && node.interval.0 == node.interval.1) {
                 skipped += 1;
                 continue;
@@ -42,13 +46,17 @@ pub fn counted() -> usize {
             }
         }
     }
-    println!("{nodes} random nodes on {FLOORS} random floors, {skipped} more that neither side expands");
-    println!("  {off} where the steps with every listed point document 01's way are not document 01's");
-    println!("  {on} where the steps with every listed point the Rust's way are not the Rust's");
+    println!("{nodes} random nodes on {FLOORS} random floors, and {skipped} that neither side expands");
+    println!("{off:>9} differ from document 01's steps when every listed point is taken document 01's way");
+    println!("{on:>9} differ from the Rust's when every listed point is taken the Rust's way");
     for (name, _, count) in left_out {
-        println!("  {count} where they are not if one is left document 01's way: {name}");
+        println!("{count:>9} differ from the Rust's when this one alone is not: {name}");
     }
-    on + off
+    ExitCode::from((on + off != 0) as u8)
+}
+
+fn as_node(left: u32, at: &Node) -> Seen {
+    ([left, at.polygon, at.first, at.second], at.interval, at.root)
 }
 
 fn bits(nodes: &[Node]) -> Vec<[u32; 9]> {
