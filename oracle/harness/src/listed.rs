@@ -18,8 +18,10 @@ pub struct Switches {
     pub landing: bool,
     /// The new root is the interval's end.
     pub root: bool,
-    /// Kinds 3 and 4 ask that the successor's own end lands on its corner.
-    pub own_end: bool,
+    /// Kind 3 asks that the successor's own right end lands on its corner.
+    pub own_right: bool,
+    /// Kind 4 asks it of the left end.
+    pub own_left: bool,
     /// Not back to the polygon just left.
     pub back: bool,
     /// Not into a polygon with a single neighbour, unless the goal is there.
@@ -35,7 +37,8 @@ impl Switches {
         triangles: false,
         landing: false,
         root: false,
-        own_end: false,
+        own_right: false,
+        own_left: false,
         back: false,
         dead_ends: false,
         small: false,
@@ -45,7 +48,8 @@ impl Switches {
         triangles: true,
         landing: true,
         root: true,
-        own_end: true,
+        own_right: true,
+        own_left: true,
         back: true,
         dead_ends: true,
         small: true,
@@ -53,12 +57,13 @@ impl Switches {
     };
 
     /// All on but one, with its name.
-    pub fn all_but_one() -> [(&'static str, Switches); 8] {
+    pub fn all_but_one() -> [(&'static str, Switches); 9] {
         [
             ("triangles", Switches { triangles: false, ..Switches::ON }),
             ("landing", Switches { landing: false, ..Switches::ON }),
             ("the new root", Switches { root: false, ..Switches::ON }),
-            ("kinds 3 and 4", Switches { own_end: false, ..Switches::ON }),
+            ("kind 3", Switches { own_right: false, ..Switches::ON }),
+            ("kind 4", Switches { own_left: false, ..Switches::ON }),
             ("going back", Switches { back: false, ..Switches::ON }),
             ("dead ends", Switches { dead_ends: false, ..Switches::ON }),
             ("small intervals", Switches { small: false, ..Switches::ON }),
@@ -122,13 +127,13 @@ fn root_after(switches: Switches, floor: &Floor, node: &Node, kind: u32, whole: 
             lands_on(end, vertex)
         }
     };
-    let (end, turn, own_end, corner) = match kind {
-        0 => (node.interval.1, node.second, whole.1, corners.1),
-        2 => (node.interval.0, node.first, whole.0, corners.0),
+    let (end, turn, own_end_lands) = match kind {
+        0 => (node.interval.1, node.second, !switches.own_left || lands(whole.1, corners.1)),
+        2 => (node.interval.0, node.first, !switches.own_right || lands(whole.0, corners.0)),
         _ => return Some(node.root),
     };
     let vertex = floor.vertex(turn);
-    let is_allowed = lands(end, vertex) && floor.turns_at(turn) && (!switches.own_end || lands(own_end, corner));
+    let is_allowed = lands(end, vertex) && floor.turns_at(turn) && own_end_lands;
     is_allowed.then_some(if switches.root { end } else { vertex })
 }
 

@@ -4,7 +4,7 @@ use glam::Vec2;
 use harness::functions::{Input, CORNERS, ENTRY, FIRST_CORNER};
 use polyanya::{Mesh, Polygon, Vertex};
 
-use crate::text::{at, interval, point, points, successors};
+use crate::text::{self, at, interval, point, points, successors};
 use crate::{ours, Shown, LIBRARY, RULE};
 
 pub fn shown() -> Vec<Shown> {
@@ -85,22 +85,22 @@ fn snapped_walk() -> Shown {
     walk("Snapping: the walk until then", &corners, at(-OFF, -2.0), (at(-OFF, -1.0), at(-1.0, -1.0)))
 }
 
-/// Three vertices are listed, and a fourth stands behind them in memory: the Rust must not see it.
+/// Two vertices are listed, and a third stands behind them in memory, which must not be seen.
 fn corner_at_the_count() -> Shown {
     let vertex = |coords| Vertex { coords, polygons: Vec::new(), is_corner: false };
     let walked = |corner: u32| {
-        let mut vertices: Vec<Vertex> = [at(0.0, 0.0), at(1.0, 0.0), at(9.0, 9.0), at(0.0, 1.0)].map(vertex).into();
-        // The fourth stays where it is and is never dropped, so the unchecked read finds a vertex.
-        unsafe { vertices.set_len(3) };
+        let mut vertices: Vec<Vertex> = [at(0.0, 0.0), at(1.0, 0.0), at(0.0, 1.0)].map(vertex).into();
+        // The third stays where it is and is never dropped, so the unchecked read finds a vertex.
+        unsafe { vertices.set_len(2) };
         let polygon = Polygon { vertices: vec![0, 1, corner], is_one_way: false };
         let mesh = Mesh::new(vertices, vec![polygon]).expect("a mesh");
         successors(mesh.walked(([u32::MAX, 0, 1, 0], (at(1.0, 0.0), at(0.0, 0.0)), at(0.0, -1.0))))
     };
-    let floor = crate::text::floor(&[(0.0, 0.0), (1.0, 0.0), (9.0, 9.0)], &[&[0, 1, 3]]);
+    let floor = text::floor(&[(0.0, 0.0), (1.0, 0.0)], &[&[0, 1, 2]]);
     Shown {
         name: "A corner equal to the vertex count",
-        input: "edges_between: vertices (0, 0) (1, 0) (9, 9), with (0, 1) behind them in memory, polygon 0,1,3 entered over 0-1, root (0, -1)".to_string(),
-        rust: format!("{} (with the corner 4 instead: {})", walked(3), walked(4)),
+        input: "edges_between: vertices (0, 0) (1, 0), with (0, 1) behind them in memory, polygon 0,1,2 entered over 0-1, root (0, -1)".to_string(),
+        rust: format!("{} (with the corner 3 in place of 2: {})", walked(2), walked(3)),
         who: RULE,
         ours: format!("the floor is refused with {}", floor.refused()),
         agreed: false,

@@ -8,21 +8,27 @@ use crate::text::{self, at, counted, floor, of_floor, point};
 use crate::{Shown, RULE};
 
 pub fn shown() -> Vec<Shown> {
-    vec![chain(), wall(), larger_distance(), heap(), stall()]
+    vec![chain(), wall(), larger_distance(), heap(), stall(), limit()]
 }
 
-/// More pops than any search here needs.
+/// More pops than a search here needs that ends.
 const MANY: usize = 10_000;
 
 fn asked(floor: &Floor, start: Vec2, goal: Vec2) -> String {
     format!("{}, question {} to {}", of_floor(floor), point(start), point(goal))
 }
 
+fn place(floor: &Floor, point: Vec2) -> (Vec2, u32) {
+    (point, floor.polygon_of(point).expect("a point on the floor"))
+}
+
 /// Both searches, and behind each answer the edge over which it came to the goal if that is asked for.
 fn question(name: &'static str, floor: &Floor, start: Vec2, goal: Vec2, with_edge: bool) -> Shown {
     assert_eq!(floor.refused(), 0, "{name}");
-    let polygon_of = |point| floor.polygon_of(point).expect("a point on the floor");
-    let (popped, path) = floor.mesh().searched((start, polygon_of(start)), (goal, polygon_of(goal)), None, MANY);
+    let (from, to) = (place(floor, start), place(floor, goal));
+    // As many pops as the original's own path() does.
+    let (popped, path) = floor.mesh().searched(from, to, None, 10 * floor.polygons.len());
+    assert_eq!(path, floor.mesh().path_between(from, to), "{name}");
     let mut rust = text::path(popped.len(), path);
     let answer = search(floor, start, goal, PLACES, BUDGET);
     let mut ours = of_answer(&answer);
@@ -85,7 +91,18 @@ fn stall() -> Shown {
     );
     let (start, goal) = (at(0.0, 0.0), at(2.0, -1.0));
     let shown = question("Stall recording", &floor, start, goal, false);
-    let polygon_of = |point| floor.polygon_of(point).expect("a point on the floor");
-    let (popped, path) = floor.mesh().searched((start, polygon_of(start)), (goal, polygon_of(goal)), Some(u32::MAX), MANY);
+    let (popped, path) = floor.mesh().searched(place(&floor, start), place(&floor, goal), Some(u32::MAX), MANY);
     Shown { rust: format!("{} (without recording: {})", shown.rust, text::path(popped.len(), path)), ..shown }
+}
+
+/// Polygons that lie over each other, as no test forbids.
+fn limit() -> Shown {
+    let floor = floor(
+        &[(3.0, 1.0), (3.0, -3.0), (-2.0, -3.0), (1.0, -2.0), (-2.0, -4.0), (1.0, 4.0), (2.0, -2.0)],
+        &[&[4, 0, 1, 2, 3], &[4, 3, 6], &[1, 0, 5, 3, 2], &[0, 4, 6]],
+    );
+    let (start, goal) = (at(-1.578125, -3.78125), at(1.03125, -2.125));
+    let shown = question("The limit of pops", &floor, start, goal, false);
+    let (popped, path) = floor.mesh().searched(place(&floor, start), place(&floor, goal), None, MANY);
+    Shown { rust: format!("{} (without its limit: {})", shown.rust, text::path(popped.len(), path)), ..shown }
 }
