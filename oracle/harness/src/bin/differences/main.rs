@@ -19,7 +19,7 @@ pub struct Shown {
     /// Who answers for us: the proved library, or document 01's rule in the harness.
     who: &'static str,
     ours: String,
-    /// The texts part, but the answers are expected to be the same.
+    /// The answers are expected to be the same.
     agreed: bool,
 }
 
@@ -40,6 +40,6 @@ fn main() -> ExitCode {
         }
     }
     let agreed = all.iter().filter(|shown| shown.agreed).count();
-    println!("{} inputs show a difference, {agreed} show none where the texts part, {unexpected} are not as listed", all.len() - agreed);
+    println!("{} inputs show a difference, {agreed} are to show none, {unexpected} are not as listed", all.len() - agreed);
     ExitCode::from((unexpected != 0) as u8)
 }

@@ -8,7 +8,7 @@ use crate::text::{self, at, counted, floor, of_floor, point};
 use crate::{Shown, RULE};
 
 pub fn shown() -> Vec<Shown> {
-    vec![chain(), wall(), larger_distance(), heap(), stall(), limit()]
+    vec![example(), chain(), wall(), larger_distance(), heap(), stall(), limit()]
 }
 
 /// More pops than a search here needs that ends.
@@ -47,6 +47,16 @@ fn of_answer(answer: &Answer) -> String {
         Some(route) => text::found(answer.pops, &route.points, route.length),
         None => format!("{} after {}", answer.number, counted(answer.pops)),
     }
+}
+
+/// Document 01's whole example, whose step is printed there: no difference, and a test of what answers for us.
+fn example() -> Shown {
+    let floor = floor(&[(0.0, 0.0), (2.0, 0.0), (4.0, 0.0), (4.0, 2.0), (2.0, 2.0), (0.0, 2.0)], &[&[0, 1, 4, 5], &[1, 2, 3, 4]]);
+    let (start, goal) = (at(1.0, 1.0), at(3.0, 1.0));
+    let steps = search(&floor, start, goal, PLACES, BUDGET).route.expect("a route").steps;
+    let words: Vec<[u32; 8]> = steps.iter().map(|step| step.words()).collect();
+    assert_eq!(words, [[2, 1, 1, 4, 0x4000_0000, 0, 0x4000_0000, 0x4000_0000]]);
+    Shown { agreed: true, ..question("Document 01's example", &floor, start, goal, false) }
 }
 
 /// Four triangles in a row: the second has one way on, and so has the third.

@@ -69,7 +69,7 @@ fn kind_4() -> Shown {
         &[(0.0, -1.0), (1.0, 0.0), (0.0, 0.0), (-1.0, 1.0), (off, 1.0), (0.0, 2.0)],
         &[&[0, 1, 2], &[2, 1, 4, 3], &[3, 4, 5]],
     );
-    after("Kinds 3 and 4", &floor, at(0.0, -off), at(0.0, 1.5), &[0])
+    after("Kind 4", &floor, at(0.0, -off), at(0.0, 1.5), &[0])
 }
 
 /// Polygons 0 and 1 share two edges in one line, and the start is on it.
