@@ -1,6 +1,11 @@
-//! What the comparison and the sample share: the original's functions, the inputs and the answers.
+//! What the programs share: the original's functions, the inputs and the answers; and the steps and the search of document 01.
 
 pub mod answer;
+pub mod floor;
+pub mod floors;
 pub mod functions;
 pub mod inputs;
+pub mod listed;
 pub mod random;
+pub mod search01;
+pub mod steps01;
