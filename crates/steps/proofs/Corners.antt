@@ -2,14 +2,14 @@
 use Prim.Native.Nat.{ℕ, zero, suc, _+_, _-_, _≤_, _<_}
 use native.Mathlib.Decide.{decLt}
 use native.Mathlib.Omega.{arith}
-use mathlib.Core.Path.{_≡_, refl, sym, ap, _∙_, subst}
-use mathlib.Core.Bool.{Bool, true, false, cond}
+use mathlib.Core.Path.{_≡_, sym, ap, _∙_}
+use mathlib.Core.Bool.{true, false}
 use mathlib.Core.List.{List, [], _∷_, _++_, append-assoc, append-nil}
 use borrow.Author.Tests.{eq-eqb}
 use lib.Dec.{eqb}
-use lib.ListN.{length, getD, List·getD-eq-default}
+use lib.ListN.{length, List·getD-eq-default}
 use Rattle.counts.specs.Counts.{first, table}
-use Rattle.counts.proofs.Laws.{first-le, first-at, first-before, getD-table, length-table}
+use Rattle.counts.proofs.Laws.{first-at, first-before, getD-table, length-table}
 use Rattle.helpers.specs.declared.point.Point.{Point}
 use Rattle.walk.specs.Round.{wrapped, cornerOf, edgeOf}
 use Rattle.walk.proofs.Wrap.{wrapped-below, wrapped-past}

@@ -1,17 +1,15 @@
 -- Document 01's whole example, as far as its steps: one out of the seed, none out of the goal polygon. antt computes them. Assumes nothing.
 use Prim.Native.Nat.{ℕ}
 use mathlib.Core.Path.{_≡_, refl}
-use mathlib.Core.List.{List, [], _∷_}
-use lib.Ieee.{add, sub, mul, div, neg, lt, le, eq, ofBits, odd, size, round}
-use Rattle.counts.specs.Counts.{first, some, table}
-use Rattle.helpers.specs.declared.point.Point.{Point}
-use Rattle.helpers.specs.declared.point.Segment.{Segment}
+use mathlib.Core.List.{[], _∷_}
+use lib.Ieee.{add, neg, lt, le, eq, ofBits, odd, size}
+use Rattle.counts.specs.Counts.{first, table}
 use Rattle.helpers.specs.Point.{pointOf, fromBitsOf, plusOf, sameOf}
 use Rattle.walk.specs.declared.SuccessorType.the-variants.{Observable}
-use Rattle.floor.specs.Stored.{Floor, Polygon, unused, corner, neighbour, cornerCount, cornerAfter, polygon, vertex, edge}
+use Rattle.floor.specs.Stored.{Floor, unused, corner, neighbour, cornerCount, cornerAfter, polygon, vertex, edge}
 use Rattle.route.specs.declared.Step.{Step}
 use Rattle.steps.specs.declared.Node.{Node}
-use Rattle.steps.specs.Steps.{isFinite, isInterval, wholeEdge, wholeEdges, candidates, isAllowed, rootAfter, clipped, stepOf, stepsOver, stepsFrom, seedNode, enter}
+use Rattle.steps.specs.Steps.{isFinite, isInterval, wholeEdge, wholeEdges, candidates, isAllowed, clipped, stepOf, stepsOver, stepsFrom, seedNode, enter}
 
 abbrev 0' : ℕ
 0' = 0x00000000

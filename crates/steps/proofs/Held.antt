@@ -1,8 +1,8 @@
 -- Every interval of the walk and of the clip has f32 ends, whatever the node: a record holds every step whole. Rests on the kit's `add-fits`. Assumes nothing.
 use Prim.Native.Nat.{ℕ, zero, suc}
-use mathlib.Core.Path.{_≡_, refl, sym, ap, _∙_, subst}
+use mathlib.Core.Path.{_≡_, refl, subst}
 use mathlib.Core.Bool.{Bool, true, false, not, cond, _&&_}
-use mathlib.Core.List.{List, [], _∷_, _++_}
+use mathlib.Core.List.{List, [], _∷_}
 use mathlib.Core.Logic.{inl, inr}
 use lib.Ieee.{binary32, nan, lt}
 use lib.Ieee.Fits.{add-fits, nan-fits}
@@ -10,18 +10,17 @@ use Rattle.counts.specs.Counts.{table}
 use Rattle.helpers.specs.declared.point.Point.{Point}
 use Rattle.helpers.specs.declared.point.Segment.{Segment}
 use Rattle.helpers.specs.Point.{slack, pointOf, plusOf, sameOf}
-use Rattle.cone.specs.declared.Clipped.{Clipped}
-use Rattle.cone.specs.declared.Clipped.the-variants.{Seen, Nothing}
+use Rattle.cone.specs.declared.Clipped.the-variants.{Seen}
 use Rattle.cone.specs.Cone.{clipToConeOf}
 use Rattle.cone.proofs.Clip.{rightLength, leftLength, clip-short-ray, clip-ends}
 use Rattle.walk.specs.declared.SuccessorType.{SuccessorType}
 use Rattle.walk.specs.declared.Part.{Part}
 use Rattle.walk.specs.Walk.{walkEdgeOf}
-use Rattle.walk.specs.Round.{Successor, cornerOf, edgeOf, successorsOn, walkOf, others, successorsOf}
+use Rattle.walk.specs.Round.{Successor, cornerOf, edgeOf, successorsOn, walkOf, successorsOf}
 use Rattle.route.specs.Step.{HeldPoint}
 use Rattle.floor.specs.Stored.{Floor, vertex, edge, cornerCount, corner, polygon}
 use Rattle.steps.specs.declared.Node.{Node}
-use Rattle.steps.specs.Steps.{wholeEdge, wholeEdges, entryOf, successorsIn, candidates, clipped, rootAfter}
+use Rattle.steps.specs.Steps.{wholeEdge, wholeEdges, successorsIn, candidates, clipped, rootAfter}
 use Rattle.walk.proofs.All.{All, all-append, all-of-map}
 use Rattle.walk.proofs.Ends.{each-end}
 use Rattle.steps.proofs.All.{all-table}

@@ -1,36 +1,34 @@
 -- From the beginning on, the parts that are on are the candidates, in order: each is on once, and when the walk is over none is left. Rests on specs/Going.
 -- Assumes nothing.
-use Prim.Native.Nat.{ℕ, zero, suc, _+_, _-_, _*_, _/_, _≤_, _<_}
+use Prim.Native.Nat.{ℕ, zero, suc, _+_, _-_, _≤_, _<_}
 use native.Mathlib.Numerals.{add-one}
 use native.Mathlib.Omega.{arith}
 use mathlib.Core.Path.{_≡_, refl, sym, ap, _∙_, subst}
-use mathlib.Core.Bool.{Bool, true, false, cond}
-use mathlib.Core.List.{List, [], _∷_, _++_, map, append-assoc, append-nil}
-use borrow.Author.Tests.{leb-true, leb-false, ltb-true, ltb-false, lt-ltb, le-ltb}
+use mathlib.Core.Bool.{Bool, true, false}
+use mathlib.Core.List.{List, [], _∷_, _++_}
+use borrow.Author.Tests.{leb-true, leb-false, ltb-true, ltb-false}
 use lib.Dec.{T, leb, ltb}
-use lib.ListN.{length, take, drop, drop-of-length-le}
+use lib.ListN.{length, drop, drop-of-length-le}
 use lib.Seq.{drop-cons, getD-take, length-take-le}
 use Rattle.counts.specs.Counts.{table}
-use Rattle.counts.proofs.Laws.{getD-table, length-table}
 use Rattle.helpers.specs.declared.point.Point.{Point}
-use Rattle.helpers.specs.declared.point.Segment.{Segment}
 use Rattle.walk.specs.declared.SuccessorType.{SuccessorType}
 use Rattle.walk.specs.declared.SuccessorType.the-variants.{Observable, RightNonObservable}
 use Rattle.walk.specs.declared.Part.{Part}
 use Rattle.walk.specs.declared.Walked.{Walked}
 use Rattle.walk.specs.declared.round.Round.{Round}
-use Rattle.walk.specs.Walk.{walkEdgeOf, walkedOf, oneOf, partsOf, noPart, partAt}
-use Rattle.walk.specs.Round.{wrapped, cornerOf, edgeOf, afterEntry, Successor, successorsOn, edgesFrom, others, walkOf, successorsOf}
+use Rattle.walk.specs.Walk.{walkEdgeOf, oneOf, partsOf, noPart, partAt}
+use Rattle.walk.specs.Round.{edgeOf, afterEntry, Successor, successorsOn, edgesFrom, others, walkOf, successorsOf}
 use Rattle.walk.specs.Turns.{beginOf, isOverOf, edgeNumberOf, nextOf}
-use Rattle.walk.proofs.Wrap.{wrapped-below, wrapped-past}
+use Rattle.walk.proofs.Wrap.{wrapped-past}
 use Rattle.walk.proofs.Laws.{array-holds-the-parts, kind-is-the-walk's, another}
-use Rattle.floor.specs.Stored.{Floor, unused, polygonAt, floorOf, corner, cornerCount, cornerAfter, polygon, vertex, edge}
+use Rattle.floor.specs.Stored.{Floor, floorOf, corner, cornerCount, polygon, vertex, edge}
 use Rattle.steps.specs.declared.Node.{Node}
 use Rattle.steps.specs.declared.going.Going.{Going}
 use Rattle.steps.specs.Steps.{wholeEdge, wholeEdges, entryOf, successorsIn, candidates}
-use Rattle.steps.specs.Going.{wholeOf, walkBy, entryFor, countFor, onEdge, beginGoing, nextGoing, current, partsOver, leftIn, Stands, Turning, Goes}
+use Rattle.steps.specs.Going.{wholeOf, entryFor, countFor, onEdge, beginGoing, nextGoing, current, partsOver, leftIn, Stands, Turning, Goes}
 use Rattle.steps.proofs.Corners.{edge-in-list, as-many-corners, from, table-is-from}
-use Rattle.steps.proofs.Rounds.{by-seed, walk-of-seed, walk-of-node, one-to-three-on, array-of-three-on, entry-of-seed, entry-of-node, count-of-seed, count-of-node, its-polygon, three-at-least, entry-in-count, more-than-taken, turning, begin-is-on}
+use Rattle.steps.proofs.Rounds.{by-seed, walk-of-seed, walk-of-node, one-to-three-on, array-of-three-on, entry-of-seed, entry-of-node, count-of-seed, count-of-node, three-at-least, entry-in-count, more-than-taken, turning, begin-is-on}
 
 -- ---- the walk goes where it should
 

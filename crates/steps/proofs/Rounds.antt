@@ -1,17 +1,16 @@
 -- The rounds of a node's polygon, on an accepted floor: every edge that is on is one of the polygon's, and yields one to three parts. Assumes nothing.
-use Prim.Native.Nat.{ℕ, _+_, _-_, _*_, _/_, _≤_, _<_}
+use Prim.Native.Nat.{ℕ, _+_, _-_, _≤_, _<_}
 use native.Mathlib.Omega.{arith}
-use mathlib.Core.Path.{_≡_, refl, sym, ap, _∙_, subst}
-use mathlib.Core.Bool.{Bool, true, false, cond}
+use mathlib.Core.Path.{_≡_, refl, sym, ap, _∙_}
+use mathlib.Core.Bool.{Bool, true, false}
 use mathlib.Core.List.{List}
 use borrow.Author.Tests.{leb-false, lt-leb}
-use lib.Dec.{leb}
 use lib.ListN.{length}
 use Rattle.helpers.specs.declared.point.Segment.{Segment}
 use Rattle.walk.specs.declared.SuccessorType.{SuccessorType}
 use Rattle.walk.specs.declared.round.Round.{Round}
 use Rattle.walk.specs.Walk.{walkEdgeOf, walkedOf, oneOf}
-use Rattle.walk.specs.Turns.{beginOf, isOverOf, edgeNumberOf, nextOf}
+use Rattle.walk.specs.Turns.{beginOf, isOverOf, edgeNumberOf}
 use Rattle.walk.proofs.Laws.{count-is-one-to-three, array-is-of-three, another}
 use Rattle.floor.specs.Stored.{Floor, polygonAt, floorOf, cornerCount, polygon}
 use Rattle.floor.proofs.Records.{polygon-is}

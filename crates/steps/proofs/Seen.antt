@@ -1,6 +1,6 @@
 -- What the code keeps of a node gives document 01's steps. Rests on specs/View. Assumes nothing.
 use Prim.Native.Nat.{ℕ, _<_}
-use mathlib.Core.Path.{_≡_, refl, sym, ap, _∙_}
+use mathlib.Core.Path.{_≡_, refl}
 use mathlib.Core.Bool.{Bool, true, false, not, _&&_, cond}
 use mathlib.Core.List.{List}
 use lib.Dec.{eqb}
@@ -12,7 +12,7 @@ use Rattle.helpers.specs.declared.point.Segment.{Segment}
 use Rattle.helpers.specs.Point.{sameOf}
 use Rattle.cone.specs.declared.Clipped.{Clipped}
 use Rattle.cone.specs.declared.Clipped.the-variants.{Seen}
-use Rattle.cone.specs.Cone.{clipOf, coneOf, clipToConeOf}
+use Rattle.cone.specs.Cone.{clipToConeOf}
 use Rattle.cone.proofs.Clip.{kept-cone-clips-the-same}
 use Rattle.walk.specs.declared.SuccessorType.{SuccessorType}
 use Rattle.walk.specs.declared.SuccessorType.the-variants.{LeftNonObservable, Observable, RightNonObservable}

@@ -1,10 +1,10 @@
 -- On an accepted floor every step leads to a node that stands on it: the polygon is listed, its entry edge's vertices too, and the edge is one of its own. Assumes nothing.
-use Prim.Native.Nat.{ℕ, _+_, _*_, _/_, _≤_, _<_}
+use Prim.Native.Nat.{ℕ, _*_, _/_, _≤_, _<_}
 use native.Mathlib.Nat.{lt-of-le-of-lt}
 use native.Mathlib.Decide.{decLt}
 use native.Mathlib.Omega.{arith}
-use mathlib.Core.Path.{_≡_, refl, sym, ap, _∙_, subst}
-use mathlib.Core.Bool.{Bool, true, false}
+use mathlib.Core.Path.{_≡_, sym, subst}
+use mathlib.Core.Bool.{Bool}
 use mathlib.Core.List.{List}
 use mathlib.Core.Logic.{_⊎_, ⊎-elim}
 use borrow.Author.Tests.{eq-eqb}
@@ -15,13 +15,12 @@ use Rattle.helpers.specs.declared.point.Point.{Point}
 use Rattle.walk.specs.Round.{Successor}
 use Rattle.floor.specs.Stored.{Floor, Polygon, unused, polygonAt, floorOf, corner, neighbour, cornerCount, cornerAfter, polygon}
 use Rattle.floor.specs.Accepted.{Accepted, Links, Back}
-use Rattle.floor.proofs.Records.{polygon-is, polygon-count, vertex-count}
+use Rattle.floor.proofs.Records.{polygon-is, polygon-count}
 use Rattle.floor.proofs.Inside.{listed-of, corner-below, after-below}
 use Rattle.route.specs.declared.Step.{Step}
 use Rattle.route.specs.World.{_∈_}
 use Rattle.steps.specs.declared.Node.{Node}
-use Rattle.steps.specs.Steps.{placeOf, entryOf, stepsFrom, seedNode, enter, candidates, stepOf}
-use Rattle.steps.specs.declared.view.Permitted.the-variants.{Yes}
+use Rattle.steps.specs.Steps.{placeOf, entryOf, stepsFrom, seedNode, enter, candidates}
 use Rattle.steps.specs.Going.{Stands}
 use Rattle.walk.proofs.All.{all-of}
 use Rattle.steps.proofs.Made.{Over, yes-tells, every-step-from}

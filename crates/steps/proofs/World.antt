@@ -2,20 +2,20 @@
 use Prim.Native.Nat.{ℕ, _+_, _*_, _/_, _≤_, _<_, _^_}
 use native.Mathlib.Decide.{decLt}
 use native.Mathlib.Omega.{arith}
-use mathlib.Core.Path.{_≡_, refl, sym, ap, _∙_, subst}
+use mathlib.Core.Path.{_≡_, subst}
 use mathlib.Core.Bool.{Bool, true, false, cond}
-use mathlib.Core.List.{List, [], _∷_}
+use mathlib.Core.List.{List, []}
 use lib.Dec.{eqb}
 use lib.ListN.{length, getD, List·getD-eq-default}
-use Rattle.word.specs.Word.{Bytes, wordAt}
+use Rattle.word.specs.Word.{Bytes}
 use Rattle.word.proofs.Laws.{word-below}
 use Rattle.counts.specs.Counts.{table}
 use Rattle.counts.proofs.Laws.{getD-table, length-table}
 use Rattle.walk.specs.Round.{Successor}
-use Rattle.floor.specs.Stored.{Floor, Polygon, Question, unused, polygonAt, floorOf, corner, neighbour, cornerAfter, polygon}
+use Rattle.floor.specs.Stored.{Floor, Polygon, Question, unused, slotAt, polygonAt, floorOf, corner, neighbour, cornerAfter, polygon}
 use Rattle.route.specs.declared.Step.{Step}
 use Rattle.route.specs.Step.{Held}
-use Rattle.route.specs.World.{World, Lawful, _∈_}
+use Rattle.route.specs.World.{Lawful, _∈_}
 use Rattle.route.proofs.Bytes.{seed-is-32, end-is-32}
 use Rattle.steps.specs.declared.Node.{Node}
 use Rattle.steps.specs.declared.view.Permitted.the-variants.{Yes}
@@ -38,10 +38,14 @@ module _ (s : ℕ) (vs ps : List ℕ) (bytes : Bytes ps) where
   abbrev f : Floor
   f = floorOf s vs ps
 
-  words-below : (n at : ℕ) → (i : ℕ) → getD (table n (λ i. wordAt ps (at + i * 4))) i unused < 2 ^ 32
-  words-below n at =
-      getD-below (2 ^ 32) (table n (λ i. wordAt ps (at + i * 4))) unused
-      (λ i l. rw (getD-table n (λ i. wordAt ps (at + i * 4)) i unused (subst (λ (k : ℕ). i < k) (length-table n (λ i. wordAt ps (at + i * 4))) l)) (word-below ps (at + i * 4) bytes))
+  slot-below : (p i : ℕ) → slotAt s ps p i < 2 ^ 32
+  unfolding slotAt
+  slot-below p i = word-below ps (p * (s * 8) + i * 4) bytes
+
+  table-below : (n : ℕ) (g : ℕ → ℕ) → ((i : ℕ) → g i < 2 ^ 32) → (i : ℕ) → getD (table n g) i unused < 2 ^ 32
+  table-below n g h =
+      getD-below (2 ^ 32) (table n g) unused
+      (λ i l. rw (getD-table n g i unused (subst (λ (k : ℕ). i < k) (length-table n g) l)) (h i))
       (omega arith)
 
   -- of a polygon that is listed, and of none
@@ -51,7 +55,10 @@ module _ (s : ℕ) (vs ps : List ℕ) (bytes : Bytes ps) where
 
   stored-slots : (p : ℕ) → Slots (polygonAt s ps p)
   unfolding polygonAt corner neighbour
-  stored-slots p = record { corner-u32 = words-below s (p * (s * 8)); neighbour-u32 = words-below s (p * (s * 8) + s * 4) }
+  stored-slots p = record {
+    corner-u32 = table-below s (slotAt s ps p) (slot-below p);
+    neighbour-u32 = table-below s (λ i. slotAt s ps p (s + i)) (λ i. slot-below p (s + i));
+  }
 
   no-slots : Slots (record { corners = []; neighbours = [] })
   unfolding corner neighbour

@@ -1,17 +1,17 @@
 -- The walk round a node's polygon, one part at a time: where it stands, where it goes next, and what is left. proofs/Left says that from the beginning on the
 -- parts that are on are the candidates, in order. Assumes nothing.
-use Prim.Native.Nat.{ℕ, _+_, _-_, _*_, _/_, _≤_, _<_}
+use Prim.Native.Nat.{ℕ, _+_, _-_, _/_, _<_}
 use mathlib.Core.Path.{_≡_}
-use mathlib.Core.Bool.{Bool, true, false, cond}
+use mathlib.Core.Bool.{false, cond}
 use mathlib.Core.List.{List, [], _∷_, _++_}
 use lib.Dec.{ltb}
 use lib.ListN.{length, drop}
 use Rattle.helpers.specs.declared.point.Segment.{Segment}
 use Rattle.walk.specs.declared.SuccessorType.{SuccessorType}
-use Rattle.walk.specs.declared.SuccessorType.the-variants.{Observable, RightNonObservable}
+use Rattle.walk.specs.declared.SuccessorType.the-variants.{Observable}
 use Rattle.walk.specs.declared.Walked.{Walked}
 use Rattle.walk.specs.declared.round.Round.{Round}
-use Rattle.walk.specs.Walk.{partOf, walkEdgeOf, walkedOf, oneOf, partsOf, partAt}
+use Rattle.walk.specs.Walk.{walkEdgeOf, walkedOf, oneOf, partsOf, partAt}
 use Rattle.walk.specs.Round.{Successor, successorsOn, edgesFrom}
 use Rattle.walk.specs.Turns.{beginOf, isOverOf, edgeNumberOf, nextOf}
 use Rattle.floor.specs.Stored.{Floor, floorOf, polygonAt, cornerCount, polygon, edge}

@@ -1,7 +1,5 @@
 -- Every end of a part of an edge is an end of the edge or a sum of points: what holds of these holds of it. Assumes nothing.
-use mathlib.Core.Path.{_≡_, refl}
 use mathlib.Core.Bool.{Bool, true, false, cond}
-use mathlib.Core.List.{List, [], _∷_, _++_}
 use Rattle.helpers.specs.declared.point.Point.{Point}
 use Rattle.helpers.specs.declared.point.Segment.{Segment}
 use Rattle.helpers.specs.declared.EdgeSide.{EdgeSide}

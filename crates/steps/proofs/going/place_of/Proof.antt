@@ -8,7 +8,7 @@ use mathlib.Core.Path.{_≡_, sym}
 use native.Mathlib.Omega.{arith}
 use Rattle.steps.specs.Steps.{placeOf}
 use Rattle.floor.specs.Stored.{polygonAt, corner}
-use mathlib.Core.Bool.{true, false, not}
+use mathlib.Core.Bool.{false}
 use lib.Dec.{eqb}
 use Rattle.steps.proofs.going.place_of.Statement.{statement}
 use Rattle.steps.proofs.going.place_of.Tie as tie

@@ -1,14 +1,11 @@
 -- `Going::next` meets its contract: another part, or the next edge, or none. Assumes nothing.
 use denote.Ref.{now}
-use borrow.Author.Needs.{needs}
 use borrow.Author.Tests.{lt-ltb, le-ltb}
 use native.Mathlib.Omega.{arith}
 use Prim.Native.Nat.{_<_}
 use mathlib.Core.Path.{sym, ap, _∙_, subst}
 use Rattle.floor.specs.Stored.{floorOf}
 use Rattle.walk.specs.declared.round.Round.{Round}
-use Rattle.walk.specs.Turns.{isOverOf}
-use Rattle.steps.specs.declared.going.Going.{Going}
 use Rattle.steps.specs.Going.{onEdge, Turning}
 use Rattle.steps.proofs.Left.{part-below-three, next-taken-in, next-turning, next-part, next-over, next-edge}
 use Rattle.steps.proofs.going.Going.next.Statement.{statement}
