@@ -1,3 +1,7 @@
+-- `stand::is_entered` meets its contract. Assumes nothing.
+use Prim.Native.Nat.{ℕ}
+use mathlib.Core.Path.{refl, ap}
+use lib.Dec.{ltb}
 use borrow.Author.Needs.{needs}
 use Rattle.steps_c.specs.Ask.{isEntered}
 use Rattle.steps_c.proofs.stand.is_entered.Statement.{statement}
@@ -5,7 +9,7 @@ use Rattle.steps_c.proofs.stand.is_entered.Tie as tie
 
 returns : tie.Need-returns
 unfolding isEntered
-returns c = rw (c .if1 .taken)
+returns c = rw (c .if1 .taken) refl
 
 cast-p : tie.Need-cast-p
 cast-p c = search needs
@@ -21,7 +25,7 @@ unfolding isEntered
 returns-2 c =
     let c1 = c .before in
     let c3 = c1 .before .before in
-    rw (c3 .if1 .left, ← c1 .corner-count .ensures .0, ← c .place-of .ensures)
+    rw (c3 .if1 .left, ← c1 .corner-count .ensures .0) (ap (λ (place : ℕ). ltb place (c1 .corner-count .result)) (c .place-of .ensures))
 
 pub is-entered-spec : {M : Type 1} → statement M
 is-entered-spec =
