@@ -1,5 +1,6 @@
 use mathlib.Core.Path.{refl, sym, _∙_}
 use borrow.Author.Needs.{needs}
+use Rattle.helpers.specs.Point.{sameOf}
 use Rattle.helpers.proofs.Cases.{taken, left, and-taken}
 use Rattle.steps.specs.Steps.{isInterval}
 use Rattle.steps.proofs.view.is_interval.Statement.{statement}
@@ -12,7 +13,8 @@ returns : tie.Need-returns
 unfolding isInterval
 returns c =
     let c1 = c .before in
-    taken _ _ (sym (c1 .same .ensures) ∙ c .if1 .taken) refl
+    let s = c1 .before .before .before in
+    taken {test = sameOf (s .args .interval .0) (s .args .interval .1)} _ _ (sym (c1 .same .ensures) ∙ c .if1 .taken) refl
 
 is-finite-requires : tie.Need-is-finite-requires
 is-finite-requires c κs = search needs

@@ -1,8 +1,9 @@
+use denote.Ref.{now}
 use mathlib.Core.Path.{_≡_}
 use borrow.Author.Needs.{needs}
 use Rattle.cone.specs.declared.Cone.{Cone}
 use Rattle.cone.specs.Cone.{coneOf}
-use Rattle.floor.specs.Stored.{Floor}
+use Rattle.floor.specs.Stored.{Floor, floorOf}
 use Rattle.steps.specs.declared.Node.{Node}
 use Rattle.steps.specs.declared.view.Corner.{Corner}
 use Rattle.steps.specs.View.{cornerOn, viewOf}
@@ -26,7 +27,9 @@ module _ (f : Floor) (node : Node) {right left : Corner} {cone : Cone} where
   of-parts r l k = rw (r, l, k)
 
 returns : tie.Need-returns
-returns c = of-parts _ _ (c .before .before .new .ensures) (c .before .new2 .ensures) (c .new3 .ensures)
+returns c =
+    let s = c .before .before .before .before .before .before .before in
+    of-parts (floorOf (s .args .slots) (now (s .args .vertices)) (now (s .args .polygons))) (s .args .node) (c .before .before .new .ensures) (c .before .new2 .ensures) (c .new3 .ensures)
 
 pub new-spec : {M : Type 1} → statement M
 new-spec =

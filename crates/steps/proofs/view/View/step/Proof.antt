@@ -1,5 +1,7 @@
 use mathlib.Core.Path.{refl}
 use borrow.Author.Needs.{needs}
+use lib.Dec.{eqb}
+use Rattle.floor.specs.Stored.{unused}
 use Rattle.helpers.proofs.Cases.{taken}
 use borrow.Author.Tests.{eq-eqb}
 use borrow.Author.Tests.{ne-eqb}
@@ -19,7 +21,7 @@ returns : tie.Need-returns
 unfolding stepBy
 returns c =
     let c1 = c .before in
-    rw (← c1 .neighbour .ensures) (taken _ _ (eq-eqb _ _ (c .if1 .taken)) refl)
+    rw (← c1 .neighbour .ensures) (taken {test = eqb (c1 .neighbour .result) unused} _ _ (eq-eqb (c1 .neighbour .result) unused (c .if1 .taken)) refl)
 
 allows-requires : tie.Need-allows-requires
 allows-requires c κs = search needs
