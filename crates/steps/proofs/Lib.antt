@@ -3,6 +3,7 @@ pub mod Rounds
 pub mod Corners
 pub mod Left
 pub mod Seen
+pub mod Stepping
 pub mod Made
 pub mod Stands
 pub mod Held

@@ -1,6 +1,6 @@
 -- What the code keeps of a node gives document 01's steps. Rests on specs/View. Assumes nothing.
 use Prim.Native.Nat.{ℕ, _<_}
-use mathlib.Core.Path.{_≡_, refl}
+use mathlib.Core.Path.{_≡_, refl, ap, _∙_}
 use mathlib.Core.Bool.{Bool, true, false, not, _&&_, cond}
 use mathlib.Core.List.{List}
 use lib.Dec.{eqb}
@@ -44,7 +44,10 @@ module _ (f : Floor) (node : Node) where
 
   seen-is : (kind : SuccessorType) (interval : Segment) → seenBy (viewOf f node) kind interval ≡ clipped f node kind interval
   unfolding seenBy clipped viewOf
-  seen-is kind interval = rw (turned-is kind, kept-cone-clips-the-same (node .root) (node .interval) interval) (go (clipToConeOf (node .root) (node .interval) interval) (Seen interval) (node .seed) (sameOf (rootAfter f node kind) (node .root)))
+  seen-is kind interval =
+      rw (turned-is kind)
+      (ap (λ (x : Clipped). cond (node .seed) (Seen interval) (cond (sameOf (rootAfter f node kind) (node .root)) x (Seen interval))) (kept-cone-clips-the-same (node .root) (node .interval) interval)
+      ∙ go (clipToConeOf (node .root) (node .interval) interval) (Seen interval) (node .seed) (sameOf (rootAfter f node kind) (node .root)))
     where
       go : (x y : Clipped) (seed same : Bool) → cond seed y (cond same x y) ≡ cond (not seed && same) x y
       go x y true same = refl

@@ -54,7 +54,7 @@ fn walk_by(node: Node, edge: Segment, kind: SuccessorType) -> Walked
 }
 
 // The place of the corner v among n, or n.
-fn place_of(polygons: &[u8], slots: usize, p: usize, n: usize, v: u32) -> usize
+pub fn place_of(polygons: &[u8], slots: usize, p: usize, n: usize, v: u32) -> usize
     requires { ⌜ (slots ≤ 16) × (n ≤ slots) × (p < length (now polygons) / (slots * 8)) ⌝ }
     ensures { λ r. ⌜ r ≡ placeOf (polygonAt slots (now (polygons .entry)) p) n v ⌝ }
 {

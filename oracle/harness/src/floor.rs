@@ -117,6 +117,14 @@ impl Floor {
         found.map(|p| p as u32)
     }
 
+    /// The two lists as stored: vertices, then polygons.
+    pub fn bytes(&self) -> (Vec<u8>, Vec<u8>) {
+        let vertices = self.vertices.iter().flat_map(|vertex| [vertex.x, vertex.y]).flat_map(f32::to_le_bytes).collect();
+        let slots = |used: &Vec<u32>| (0..MOST_CORNERS).map(|i| used.get(i).copied().unwrap_or(WALL)).collect::<Vec<u32>>();
+        let record = |polygon: &Polygon| [slots(&polygon.corners), slots(&polygon.neighbours)].concat();
+        (vertices, self.polygons.iter().flat_map(record).flat_map(u32::to_le_bytes).collect())
+    }
+
     /// The same floor for the original: at each vertex the polygons around it, rising, then "none" if it is on a wall.
     /// A polygon is one-way when it has a single neighbour, and a vertex is a corner when it is on a wall.
     pub fn mesh(&self) -> Mesh {

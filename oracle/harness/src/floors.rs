@@ -2,7 +2,7 @@
 
 use glam::Vec2;
 
-use crate::floor::{Floor, Polygon};
+use crate::floor::{Floor, Polygon, WALL};
 use crate::random::Random;
 use crate::steps01::{enter, seed, steps_from, Node, Segment};
 
@@ -21,6 +21,28 @@ pub struct Asked {
     /// The polygon that was left, or a wall's number where there is none.
     pub left: u32,
 }
+
+/// Which nodes, or nodes on which floors.
+#[derive(Clone, Copy, Debug, PartialEq)]
+pub enum Class {
+    /// A seed.
+    Seed,
+    /// Where steps lead from a seed.
+    Reached,
+    /// Over any edge, with any interval and any root.
+    Any,
+    /// Of the three above, on a floor with a wall in every second place where none was.
+    Walled,
+    /// On a floor with three corners of a polygon, one after the other, exactly in a line.
+    Straight,
+    /// On a floor that has a coordinate beyond half of the limit.
+    Large,
+    /// A floor or a node that is changed in one place, so that most are refused.
+    Changed,
+}
+
+pub const CLASSES: [Class; 7] =
+    [Class::Seed, Class::Reached, Class::Any, Class::Walled, Class::Straight, Class::Large, Class::Changed];
 
 pub struct Floors {
     random: Random,
@@ -49,6 +71,26 @@ impl Floors {
         }
         let mut floor = Floor::linked(self.laid(vertices), &polygons);
         self.wall_up(&mut floor);
+        floor
+    }
+
+    /// One of the class.
+    pub fn floor_of(&mut self, class: Class) -> Floor {
+        let mut floor = self.floor();
+        match class {
+            Class::Walled => self.wall_one_in(&mut floor, 2),
+            Class::Straight => {
+                while !floor.polygons.iter().any(|polygon| has_corners_in_line(&floor, polygon)) {
+                    floor = self.floor();
+                }
+            }
+            Class::Large => {
+                while !floor.vertices.iter().any(|vertex| vertex.x.abs().max(vertex.y.abs()) > LIMIT / 2.0) {
+                    floor = self.floor();
+                }
+            }
+            _ => (),
+        }
         floor
     }
 
@@ -209,9 +251,12 @@ impl Floors {
 
     fn wall_up(&mut self, floor: &mut Floor) {
         let one_in = self.random.pick(&[0, 0, 4, 12]);
-        if one_in == 0 {
-            return;
+        if one_in != 0 {
+            self.wall_one_in(floor, one_in);
         }
+    }
+
+    fn wall_one_in(&mut self, floor: &mut Floor, one_in: usize) {
         for p in 0..floor.polygons.len() {
             let edges: Vec<_> = floor.polygons[p].edges().collect();
             for (a, b) in edges {
@@ -250,6 +295,63 @@ impl Floors {
         let goal_polygon = floor.polygon_of(goal).unwrap_or(any);
         let (left, node) = if self.random.below(4) == 0 { self.any_node(floor) } else { self.walked(floor, goal_polygon) };
         Asked { goal, goal_polygon, node, left }
+    }
+
+    /// One of the class, or none where the floor seems to have none.
+    pub fn asked_of(&mut self, class: Class, floor: &Floor) -> Option<Asked> {
+        const TRIES: usize = 8;
+        let is_of = |asked: &Asked| match class {
+            Class::Seed => asked.node.seed,
+            Class::Reached => !asked.node.seed,
+            _ => true,
+        };
+        (0..TRIES).map(|_| self.drawn(class, floor)).find(is_of)
+    }
+
+    fn drawn(&mut self, class: Class, floor: &Floor) -> Asked {
+        let mut asked = self.asked(floor);
+        let drawn = match class {
+            Class::Seed => {
+                let any = self.random.below(floor.polygons.len()) as u32;
+                let start = self.point(floor);
+                (WALL, seed(start, floor.polygon_of(start).unwrap_or(any)))
+            }
+            Class::Reached => self.walked(floor, asked.goal_polygon),
+            Class::Any => self.any_node(floor),
+            _ => (asked.left, asked.node),
+        };
+        (asked.left, asked.node) = drawn;
+        asked
+    }
+
+    /// Another number in one place of the floor or of the node: one that is in use, or the next to the last that is, or none at all.
+    pub fn change(&mut self, floor: &mut Floor, node: &mut Node) {
+        let (vertices, polygons) = (floor.vertices.len() as u32, floor.polygons.len() as u32);
+        let vertex = self.number(vertices);
+        let polygon = self.number(polygons);
+        let p = self.random.below(floor.polygons.len());
+        let i = self.random.below(floor.polygons[p].corners.len());
+        match self.random.below(8) {
+            0 => node.polygon = polygon,
+            1 => node.first = vertex,
+            2 | 3 => node.second = vertex,
+            // The wall's number in a corner's slot would stand for no corner.
+            4 => floor.polygons[p].corners[i] = vertex.min(WALL - 1),
+            5 => floor.polygons[p].neighbours[i] = polygon,
+            6 => {
+                let v = self.random.below(floor.vertices.len());
+                floor.vertices[v].x = self.random.pick(&[LIMIT, -LIMIT, 16_384.002, -16_384.002, f32::INFINITY, f32::NAN, -0.0]);
+            }
+            _ => {
+                floor.polygons[p].corners.remove(i);
+                floor.polygons[p].neighbours.remove(i);
+            }
+        }
+    }
+
+    fn number(&mut self, count: u32) -> u32 {
+        let used = self.random.below(count as usize) as u32;
+        self.random.pick(&[used, used, used, count, count + 1, WALL, WALL - 1])
     }
 
     /// Where so many steps lead from a seed, or fewer where none goes on. From the goal polygon none does, so it is mostly kept out of.
@@ -316,6 +418,18 @@ impl Floors {
     fn square(&mut self) -> Vec2 {
         Vec2::new(2.0 * self.random.fraction() - 1.0, 2.0 * self.random.fraction() - 1.0)
     }
+}
+
+/// Exactly: the products of two differences of floats this size are whole in f64.
+fn has_corners_in_line(floor: &Floor, polygon: &Polygon) -> bool {
+    let corner = |i: usize| {
+        let vertex = floor.vertex(polygon.corners[i % polygon.corners.len()]);
+        (vertex.x as f64, vertex.y as f64)
+    };
+    (0..polygon.corners.len()).any(|i| {
+        let ((ax, ay), (bx, by), (cx, cy)) = (corner(i), corner(i + 1), corner(i + 2));
+        (bx - ax) * (cy - ay) == (by - ay) * (cx - ax)
+    })
 }
 
 /// After so many quarter turns, on the square about the origin: no library's sine, so the same everywhere.

@@ -4,7 +4,7 @@
 use glam::Vec2;
 use polyanya_general_walk::Mesh;
 
-use crate::floor::{Floor, WALL};
+use crate::floor::{Floor, Polygon, WALL};
 
 pub type Segment = (Vec2, Vec2);
 
@@ -48,6 +48,23 @@ pub struct Node {
     pub second: u32,
     pub interval: Segment,
     pub root: Vec2,
+}
+
+impl Node {
+    /// 1 for the seed, the numbers, then the bits of the interval and of the root.
+    pub fn words(&self) -> [u32; 10] {
+        let (right, left) = self.interval;
+        let [a, b, c, d, e, f] = [right.x, right.y, left.x, left.y, self.root.x, self.root.y].map(f32::to_bits);
+        [self.seed as u32, self.polygon, self.first, self.second, a, b, c, d, e, f]
+    }
+
+    /// In a listed polygon, over one of its edges between listed vertices. The seed was entered over none.
+    pub fn stands_on(&self, floor: &Floor) -> bool {
+        let is_vertex = |v: u32| (v as usize) < floor.vertices.len();
+        let polygon = floor.polygons.get(self.polygon as usize);
+        let is_entered = |polygon: &Polygon| self.seed || polygon.corners.contains(&self.second);
+        polygon.is_some_and(is_entered) && is_vertex(self.first) && is_vertex(self.second)
+    }
 }
 
 /// "From the seed: .. root the start."

@@ -1,4 +1,5 @@
 use denote.Ref.{now}
+use mathlib.Core.Path.{refl, sym, _∙_}
 use Rattle.floor.proofs.Inside.{vertex-used}
 use borrow.Author.Needs.{needs}
 use Rattle.steps.specs.Steps.{rootAfter}
@@ -30,21 +31,21 @@ returns : tie.Need-returns
 unfolding rootAfter
 returns c =
     let c1 = c .before in
-    rw (c1 .enum-told .given .1)
+    rw (c1 .enum-told .given .1) refl
 
 returns-2 : tie.Need-returns-2
 unfolding rootAfter
 returns-2 c =
     let c2 = c .before .before in
     let c6 = c2 .before .before .before .before in
-    rw (c2 .enum-told2 .given .1, vertex-used (c6 .args .slots) (now (c6 .args .vertices)) (now (c6 .args .polygons)) (c6 .args .self .first) (c6 .pre .0), ← c .used-vertex .ensures)
+    rw (c2 .enum-told2 .given .1) (c .used-vertex .ensures ∙ sym (vertex-used (c6 .args .slots) (now (c6 .args .vertices)) (now (c6 .args .polygons)) (c6 .args .self .first) (c6 .pre .0)))
 
 returns-3 : tie.Need-returns-3
 unfolding rootAfter
 returns-3 c =
     let c2 = c .before .before in
     let c6 = c2 .before .before .before .before in
-    rw (c2 .enum-told3 .given .1, vertex-used (c6 .args .slots) (now (c6 .args .vertices)) (now (c6 .args .polygons)) (c6 .args .self .second) (c6 .pre .1), ← c .used-vertex2 .ensures)
+    rw (c2 .enum-told3 .given .1) (c .used-vertex2 .ensures ∙ sym (vertex-used (c6 .args .slots) (now (c6 .args .vertices)) (now (c6 .args .polygons)) (c6 .args .self .second) (c6 .pre .1)))
 
 pub root-after-spec : {M : Type 1} → statement M
 root-after-spec =

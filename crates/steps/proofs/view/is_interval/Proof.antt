@@ -1,4 +1,7 @@
+use mathlib.Core.Path.{refl, sym, _∙_}
 use borrow.Author.Needs.{needs}
+use Rattle.helpers.specs.Point.{sameOf}
+use Rattle.helpers.proofs.Cases.{taken, left, and-taken}
 use Rattle.steps.specs.Steps.{isInterval}
 use Rattle.steps.proofs.view.is_interval.Statement.{statement}
 use Rattle.steps.proofs.view.is_interval.Tie as tie
@@ -10,7 +13,8 @@ returns : tie.Need-returns
 unfolding isInterval
 returns c =
     let c1 = c .before in
-    rw (← c1 .same .ensures, c .if1 .taken)
+    let s = c1 .before .before .before in
+    taken {test = sameOf (s .args .interval .0) (s .args .interval .1)} _ _ (sym (c1 .same .ensures) ∙ c .if1 .taken) refl
 
 is-finite-requires : tie.Need-is-finite-requires
 is-finite-requires c κs = search needs
@@ -25,7 +29,7 @@ returns-2 c =
     let c2 = c1 .before in
     let c3 = c2 .before in
     let c4 = c3 .before in
-    rw (← c4 .same .ensures, c3 .if1 .left, ← c2 .is-finite .ensures, c1 .if2 .taken, ← c .is-finite2 .ensures)
+    left _ _ (sym (c4 .same .ensures) ∙ c3 .if1 .left) (and-taken _ _ (sym (c2 .is-finite .ensures) ∙ c1 .if2 .taken) (c .is-finite2 .ensures))
 
 returns-3 : tie.Need-returns-3
 unfolding isInterval
@@ -33,7 +37,7 @@ returns-3 c =
     let c1 = c .before in
     let c2 = c1 .before in
     let c3 = c2 .before in
-    rw (← c3 .same .ensures, c2 .if1 .left, ← c1 .is-finite .ensures, c .if2 .left)
+    left _ _ (sym (c3 .same .ensures) ∙ c2 .if1 .left) (rw (← c1 .is-finite .ensures, c .if2 .left) refl)
 
 pub is-interval-spec : {M : Type 1} → statement M
 is-interval-spec =

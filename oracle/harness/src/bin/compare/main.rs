@@ -7,6 +7,7 @@ use std::process::ExitCode;
 mod functions;
 mod ours;
 mod roots;
+mod steps;
 mod time;
 
 /// How many inputs were compared, and on how many the answers differ.

@@ -1,4 +1,4 @@
-use mathlib.Core.Path.{refl}
+use mathlib.Core.Path.{refl, sym, _∙_}
 use Rattle.helpers.proofs.Cases.{taken, left}
 use borrow.Author.Needs.{needs}
 use Rattle.steps.specs.View.{seenBy}
@@ -25,7 +25,7 @@ returns-2 c =
     let c2 = c1 .before in
     let c3 = c2 .before in
     let c4 = c3 .before in
-    left _ _ (c4 .if1 .left) (rw (← c3 .turned-to .ensures, ← c2 .same .ensures, c1 .if2 .taken, ← c .clip .ensures))
+    left _ _ (c4 .if1 .left) (rw (← c3 .turned-to .ensures) (taken _ _ (sym (c2 .same .ensures) ∙ c1 .if2 .taken) (c .clip .ensures)))
 
 returns-3 : tie.Need-returns-3
 unfolding seenBy
@@ -33,7 +33,7 @@ returns-3 c =
     let c1 = c .before in
     let c2 = c1 .before in
     let c3 = c2 .before in
-    left _ _ (c3 .if1 .left) (rw (← c2 .turned-to .ensures, ← c1 .same .ensures, c .if2 .left))
+    left _ _ (c3 .if1 .left) (rw (← c2 .turned-to .ensures) (left _ _ (sym (c1 .same .ensures) ∙ c .if2 .left) refl))
 
 pub seen-spec : {M : Type 1} → statement M
 seen-spec =

@@ -1,4 +1,8 @@
+use mathlib.Core.Path.{refl}
 use borrow.Author.Needs.{needs}
+use lib.Dec.{eqb}
+use Rattle.floor.specs.Stored.{unused}
+use Rattle.helpers.proofs.Cases.{taken}
 use borrow.Author.Tests.{eq-eqb}
 use borrow.Author.Tests.{ne-eqb}
 use borrow.Author.Tests.{not-false}
@@ -17,7 +21,7 @@ returns : tie.Need-returns
 unfolding stepBy
 returns c =
     let c1 = c .before in
-    rw (← c1 .neighbour .ensures, eq-eqb _ _ (c .if1 .taken))
+    rw (← c1 .neighbour .ensures) (taken {test = eqb (c1 .neighbour .result) unused} _ _ (eq-eqb (c1 .neighbour .result) unused (c .if1 .taken)) refl)
 
 allows-requires : tie.Need-allows-requires
 allows-requires c κs = search needs
@@ -72,7 +76,7 @@ returns-4 c =
     let c9 = c8 .before in
     let c10 = c9 .before in
     let c11 = c10 .before in
-    rw (← c11 .neighbour .ensures, ne-eqb _ _ (c10 .if1 .left), ← c9 .allows .ensures, not-false (c8 .before .allows .result) (c8 .if2 .left), ← c7 .seen .ensures, c5 .clipped .given .1, ← c3 .is-interval .ensures, not-false (c2 .before .is-interval .result) (c2 .if3 .left), ← c1 .corner .ensures, ← c .corner-after .ensures)
+    rw (← c11 .neighbour .ensures, ne-eqb _ _ (c10 .if1 .left), ← c9 .allows .ensures, not-false (c8 .before .allows .result) (c8 .if2 .left), ← c7 .seen .ensures, c5 .clipped .given .1, ← c3 .is-interval .ensures, not-false (c2 .before .is-interval .result) (c2 .if3 .left), ← c1 .corner .ensures, ← c .corner-after .ensures) refl
 
 returns-5 : tie.Need-returns-5
 unfolding stepBy

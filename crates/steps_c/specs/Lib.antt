@@ -1,0 +1,2 @@
+pub mod Kth
+pub mod Ask
