@@ -1,0 +1,3 @@
+-- The laws of the judge that belong to no one function.
+pub mod Seeking
+pub mod Ending

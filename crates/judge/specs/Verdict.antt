@@ -1,0 +1,53 @@
+-- Document 01, "The judge runs 2 to 9, then 20, then records in order": what it says of a floor, a question and a route file, and the number and the values
+-- that stand for each verdict. Assumes nothing.
+use Prim.Native.Nat.{ℕ}
+use mathlib.Core.Bool.{_&&_, cond}
+use mathlib.Core.List.{List}
+use Rattle.helpers.specs.declared.point.Point.{Point}
+use Rattle.floor.specs.declared.Refusal.{Refusal}
+use Rattle.floor.specs.declared.Look.{Look}
+use Rattle.floor.specs.declared.Look.the-variants.{Inside, Refused as LookRefused}
+use Rattle.floor.specs.Stored.{Floor, Question, floorOf, questionOf}
+use Rattle.floor.specs.Look.{lookOf, refusalNumber, refusalRecord}
+use Rattle.route.specs.declared.Judged.{Judged}
+use Rattle.route.specs.declared.Judged.the-variants.{Accepted, NotEnd}
+use Rattle.route.specs.Record.{recordAt, endBytes}
+use Rattle.route.specs.Judge.{sameBytes, judgeOf, judgedNumber, judgedRecord}
+use Rattle.steps.specs.declared.Node.{Node}
+use Rattle.steps.specs.World.{endingOf, isInGoal, worldIn}
+use Rattle.judge.specs.declared.Verdict.{Verdict}
+use Rattle.judge.specs.declared.Verdict.the-variants.{Refused, Read}
+
+-- ---- the last record
+
+-- a question by its two points
+abbrev pub asked : Point → Point → Question
+asked start goal = record { start = start; goal = goal }
+
+-- "23: last record is not the true end, or the one before it is not in the goal polygon"
+unfoldable pub endOf : Node → Point → ℕ → List ℕ → ℕ → Judged
+endOf node goal to file i =
+    cond (isInGoal to node && sameBytes (recordAt file i) (endBytes (endingOf goal node .points) goal (endingOf goal node .length))) Accepted (NotEnd i)
+
+-- ---- the judge
+
+-- a refusal of the floor or of the question, or what is said of the file, the start and the goal being in these polygons
+abbrev pub judgeIf : Look → (ℕ → ℕ → Judged) → Verdict
+judgeIf (Inside from to) judged = Read (judged from to)
+judgeIf (LookRefused refusal) judged = Refused refusal
+
+unfoldable pub verdictOf : ℕ → List ℕ → List ℕ → List ℕ → List ℕ → Verdict
+verdictOf slots vertices polygons question route =
+    judgeIf (lookOf slots vertices polygons question)
+    (λ from to. judgeOf (worldIn (floorOf slots vertices polygons) (questionOf question) from to) route)
+
+-- ---- document 01's number and values of each verdict
+
+unfoldable pub verdictNumber : Verdict → ℕ
+verdictNumber (Refused refusal) = refusalNumber refusal
+verdictNumber (Read judged) = judgedNumber judged
+
+-- "4, 5, 6, 21, 22, 23 also return the lowest record at fault, 23 always the last record"
+unfoldable pub verdictRecord : Verdict → List ℕ
+verdictRecord (Refused refusal) = refusalRecord refusal
+verdictRecord (Read judged) = judgedRecord judged

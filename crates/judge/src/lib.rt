@@ -1,0 +1,120 @@
+// The judge: reads a route file against a floor and a question before a cart moves. Nothing is lent to it but what it reads;
+// it holds one node, the view out of it and the marks of the turn vertices.
+
+ghost use mathlib.Core.Path.{_≡_};
+ghost use Prim.Native.Nat.{_+_, _*_, _/_, _≤_, _<_, _^_};
+ghost use lib.ListN.{length};
+ghost use Rattle.floor.specs.Stored.{floorOf};
+ghost use Rattle.route.specs.Judge.{judgeOf};
+ghost use Rattle.steps.specs.World.{worldIn};
+ghost use Rattle.judge.specs.Verdict.{asked, endOf, verdictOf, verdictNumber};
+ghost use Rattle.judge.specs.Ready.{Ready};
+use floor::Look;
+use floor::Refusal;
+use floor::SLOTS;
+use helpers::Point;
+use route::Judged;
+use route::Record;
+use route::Sought;
+use steps::Node;
+
+mod seek;
+
+// What the judge says.
+pub enum Verdict {
+    // 2 to 9: the floor or the question is refused, and the route file was not read.
+    Refused(Refusal),
+    // 0, or 20 to 23: what the route file is.
+    Read(Judged),
+}
+
+// The last record: the true end of a route whose last step led to this node, which is in the goal polygon.
+fn judge_end(node: Node, goal: Point, to: u32, route: &[u8], i: usize) -> Judged
+    requires { ⌜ ((i + 1) * 32 ≤ length (now route)) × (node .points + 2 < 2 ^ 32) ⌝ }
+    ensures { λ r. ⌜ r ≡ endOf node goal to (now (route .entry)) i ⌝ }
+{
+    if node.polygon == to {
+        let ending = node.ending(goal);
+        let end = Record::end(ending.points, goal, ending.length);
+        if end.is_at(route, i) {
+            return Judged::Accepted;
+        }
+        return Judged::NotEnd(i);
+    }
+    Judged::NotEnd(i)
+}
+
+// 20, then the records in order: the route from the start, in polygon `from`, to the goal, in polygon `to`.
+pub fn judge_route(
+    vertices: &[u8],
+    polygons: &[u8],
+    slots: usize,
+    marks: &[u8; 1024],
+    start: Point,
+    goal: Point,
+    from: u32,
+    to: u32,
+    route: &[u8],
+) -> Judged
+    requires { ⌜ Ready slots (now vertices) (now polygons) (now marks) × (from < length (now polygons) / (slots * 8)) ⌝ }
+    ensures { λ r. ⌜ r ≡ judgeOf (worldIn (floorOf slots (now (vertices .entry)) (now (polygons .entry))) (asked start goal) from to) (now (route .entry)) ⌝ }
+{
+    if !route::length_right(route) {
+        return Judged::Length;
+    }
+    let seed = Record::seed(from, start);
+    if !seed.is_at(route, 0) {
+        return Judged::NotSeed;
+    }
+    let last = route.len() / Record::BYTES - 1;
+    let mut node = Node::seed(start, from);
+    let mut i = 1;
+    while i < last {
+        let sought = seek::find_step(vertices, polygons, slots, marks, node, to, route, i);
+        let Sought::Found(step) = sought else {
+            return Judged::NotStep(i);
+        };
+        node = node.enter(vertices, polygons, slots, step);
+        i += 1;
+    }
+    judge_end(node, goal, to, route, last)
+}
+
+// 2 to 9, then 20, then the records in order. Nothing is asked of the caller.
+pub fn judge(vertices: &[u8], polygons: &[u8], question: &[u8], route: &[u8]) -> Verdict
+    ensures { λ r. ⌜ r ≡ verdictOf 8 (now (vertices .entry)) (now (polygons .entry)) (now (question .entry)) (now (route .entry)) ⌝ }
+{
+    let look = floor::look_at(vertices, polygons, question);
+    match look {
+        Look::Inside(from, to) => {
+            let marks = floor::turns::turn_vertices(vertices, polygons, SLOTS);
+            let start = floor::stored::question_start(question);
+            let goal = floor::stored::question_goal(question);
+            let judged = judge_route(
+                vertices,
+                polygons,
+                SLOTS,
+                &marks,
+                start,
+                goal,
+                from as u32,
+                to as u32,
+                route,
+            );
+            Verdict::Read(judged)
+        }
+        Look::Refused(refusal) => Verdict::Refused(refusal),
+    }
+}
+
+impl Verdict {
+    // Document 01's number of a verdict.
+    pub fn number(self) -> u32
+        ensures { λ r. ⌜ r ≡ verdictNumber self ⌝ }
+    {
+        match self {
+            Verdict::Refused(refusal) => refusal.number(),
+            Verdict::Read(judged) => judged.number(),
+        }
+    }
+}

@@ -1,0 +1,66 @@
+// Which of a node's steps a record of the route is: one walk round the node's polygon.
+
+ghost use mathlib.Core.Path.{_≡_};
+ghost use Prim.Native.Nat.{_+_, _*_, _/_, _≤_, _<_};
+ghost use lib.ListN.{length};
+ghost use Rattle.floor.specs.Stored.{floorOf};
+ghost use Rattle.floor.specs.Where.{marksOf};
+ghost use Rattle.route.specs.Record.{recordAt};
+ghost use Rattle.route.specs.Judge.{findStep};
+ghost use Rattle.steps.specs.Steps.{stepsFrom};
+ghost use Rattle.steps.specs.Going.{Stands};
+ghost use Rattle.judge.specs.Seek.{soughtAt};
+use route::Record;
+use route::Sought;
+use steps::Node;
+use steps::going;
+use steps::view::Permitted;
+use steps::view::View;
+
+// The step, if there is one and the record is it.
+fn step_at(permitted: Permitted, route: &[u8], i: usize) -> Sought
+    requires { ⌜ (i + 1) * 32 ≤ length (now route) ⌝ }
+    ensures { λ r. ⌜ r ≡ soughtAt permitted (recordAt (now (route .entry)) i) ⌝ }
+{
+    match permitted {
+        Permitted::Yes(step) => {
+            let record = Record::step(step);
+            if record.is_at(route, i) {
+                return Sought::Found(step);
+            }
+            Sought::Missing
+        }
+        Permitted::No => Sought::Missing,
+    }
+}
+
+// The step out of the node that the record is. Nothing steps out of the goal polygon.
+pub fn find_step(
+    vertices: &[u8],
+    polygons: &[u8],
+    slots: usize,
+    marks: &[u8; 1024],
+    node: Node,
+    goal: u32,
+    route: &[u8],
+    i: usize,
+) -> Sought
+    requires { ⌜ Stands slots (now vertices) (now polygons) node ⌝ }
+    requires { ⌜ (length (now vertices) / 8 ≤ 1024) × (now marks ≡ marksOf (floorOf slots (now vertices) (now polygons))) × ((i + 1) * 32 ≤ length (now route)) ⌝ }
+    ensures { λ r. ⌜ r ≡ findStep (stepsFrom (floorOf slots (now (vertices .entry)) (now (polygons .entry))) goal node) (recordAt (now (route .entry)) i) ⌝ }
+{
+    if node.polygon == goal {
+        return Sought::Missing;
+    }
+    let view = View::new(vertices, polygons, slots, marks, node);
+    let mut going = going::begin(vertices, polygons, slots, node);
+    while !going.is_over() {
+        let permitted = view.step(polygons, slots, going.edge, going.part());
+        let sought = step_at(permitted, route, i);
+        match sought {
+            Sought::Found(step) => return Sought::Found(step),
+            Sought::Missing => going = going.next(vertices, polygons, slots, node),
+        }
+    }
+    Sought::Missing
+}
