@@ -2,3 +2,4 @@
 pub mod Seeking
 pub mod Ending
 pub mod Following
+pub mod Looking

@@ -42,8 +42,7 @@ begin-requires c κs = c .before .before .before .before .before .before .pre .0
 loop-holds : tie.Need-loop-holds Inv-loop μ-loop
 loop-holds c =
     let s = c .before .before .before .before .before .before .before in
-    let f = floorOf (s .args .slots) (now (s .args .vertices)) (now (s .args .polygons)) in
-    (
+    let f = floorOf (s .args .slots) (now (s .args .vertices)) (now (s .args .polygons)) in (
       c .before .new .ensures,
       subst (Goes f (s .args .node)) (sym (c .begin .ensures)) (begin-goes (s .args .slots) (now (s .args .vertices)) (now (s .args .polygons)) (s .args .node) (s .pre .0)),
       subst (Sought-in f (s .args .goal) (s .args .node) (recordAt (now (s .args .route)) (s .args .i))) (sym (c .begin .ensures))
@@ -63,8 +62,7 @@ step-requires : tie.Need-step-requires Inv-loop μ-loop
 step-requires c κs =
     let l = c .before .before .before in
     let s = l .before .before .before .before .before .before .before .before in
-    let on = sym (c .before .before .is-over .ensures) ∙ not-true _ (c .before .if2 .taken) in
-    (
+    let on = sym (c .before .before .is-over .ensures) ∙ not-true _ (c .before .if2 .taken) in (
       s .pre .0 .listed .few,
       edge-inside (s .args .slots) (now (s .args .vertices)) (now (s .args .polygons)) (s .args .node) (s .pre .0) (s .args .goal) (recordAt (now (s .args .route)) (s .args .i)) (l .loop .going) (l .loop .inv .1) on,
       subst (λ (v : View). v .node .polygon < length (now (s .args .polygons)) / (s .args .slots * 8)) (sym (l .loop .inv .0)) (by-view (floorOf (s .args .slots) (now (s .args .vertices)) (now (s .args .polygons))) (s .args .node) _ (s .pre .0 .listed .listed)),
@@ -105,8 +103,7 @@ loop-again : tie.Need-loop-again Inv-loop μ-loop
 loop-again c =
     let l = c .before .before .before .before .before .before .before .before in
     let s = l .before .before .before .before .before .before .before .before in
-    let on = sym (c .before .before .before .before .before .before .before .is-over .ensures) ∙ not-true _ (c .before .before .before .before .before .before .if2 .taken) in
-    (
+    let on = sym (c .before .before .before .before .before .before .before .is-over .ensures) ∙ not-true _ (c .before .before .before .before .before .before .if2 .taken) in (
       l .loop .inv .0,
       subst (Goes (floorOf (s .args .slots) (now (s .args .vertices)) (now (s .args .polygons))) (s .args .node)) (sym (c .next .ensures)) (next-goes (s .args .slots) (now (s .args .vertices)) (now (s .args .polygons)) (s .args .node) (s .pre .0) (l .loop .going) (l .loop .inv .1) on),
       subst (Sought-in (floorOf (s .args .slots) (now (s .args .vertices)) (now (s .args .polygons))) (s .args .goal) (s .args .node) (recordAt (now (s .args .route)) (s .args .i))) (sym (c .next .ensures))
