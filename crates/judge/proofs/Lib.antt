@@ -3,3 +3,5 @@ pub mod Seeking
 pub mod Ending
 pub mod Following
 pub mod Looking
+pub mod Exact
+pub mod Numbers

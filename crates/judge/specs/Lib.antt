@@ -2,3 +2,5 @@
 pub mod Seek
 pub mod Ready
 pub mod Verdict
+pub mod Exactly
+pub mod Points
