@@ -4,3 +4,4 @@ pub mod Ready
 pub mod Verdict
 pub mod Exactly
 pub mod Points
+pub mod Readout

@@ -18,6 +18,7 @@ use route::Record;
 use route::Sought;
 use steps::Node;
 
+pub mod listing;
 mod seek;
 
 // What the judge says.
