@@ -1,0 +1,78 @@
+// What the programs share: a file or standard input read whole into lent room, and a verdict said in one line.
+
+ghost use Rattle.io.specs.Counts.{Counts};
+use judge::Verdict;
+use libc::STDERR_FILENO;
+use libc::STDIN_FILENO;
+use libc::STDOUT_FILENO;
+use says::At;
+
+// Reads the file to the front of the room and answers how many bytes it has: none where it cannot be opened or read. A file
+// that is as long as the room, or longer, fills it: lend a byte more than the longest file may have, and its length is wrong.
+pub fn read_file(path: &[u8], room: &mut [u8]) -> usize
+    ensures { λ r. ⌜ Counts r (now (room .exit)) ⌝ }
+{
+    let fd = os::open_read(path);
+    if fd < 0 {
+        os::fail(path);
+        return 0;
+    }
+    let n = read_whole(fd, path, room);
+    libc::close(fd);
+    n
+}
+
+// The same of standard input.
+pub fn read_input(room: &mut [u8]) -> usize
+    ensures { λ r. ⌜ Counts r (now (room .exit)) ⌝ }
+{
+    read_whole(STDIN_FILENO, b"standard input", room)
+}
+
+// A short count is the end of the file only if a further read says so. A read that failed may have left the front of a file,
+// which is another file: it is answered as none.
+fn read_whole(fd: i32, name: &[u8], room: &mut [u8]) -> usize
+    ensures { λ r. ⌜ Counts r (now (room .exit)) ⌝ }
+{
+    let n = io::read_full(fd, room);
+    if n == room.len() {
+        io::write_all(STDERR_FILENO, name);
+        io::write_all(STDERR_FILENO, b" is too long\n");
+        return n;
+    }
+    if !is_over(fd) {
+        os::fail(name);
+        return 0;
+    }
+    n
+}
+
+// Whether nothing is left to read.
+fn is_over(fd: i32) -> bool {
+    let mut byte = [0u8; 1];
+    libc::read(fd, &mut byte) == 0
+}
+
+// A line on standard output: the number, the record where there is one, and the words, as "22 3 not a permitted step".
+pub fn say(verdict: Verdict) {
+    let number = verdict.number();
+    io::print_decimal(STDOUT_FILENO, number as u64);
+    match says::verdict_at(verdict) {
+        At::Record(record) => say_record(record),
+        At::Nowhere => (),
+    }
+    say_words(number);
+}
+
+fn say_record(record: usize) {
+    io::write_all(STDOUT_FILENO, b" ");
+    io::print_decimal(STDOUT_FILENO, record as u64);
+}
+
+fn say_words(number: u32) {
+    let mut room = [0u8; 64];
+    let n = says::words(number, &mut room);
+    io::write_all(STDOUT_FILENO, b" ");
+    io::write_all(STDOUT_FILENO, &room[..n]);
+    io::write_all(STDOUT_FILENO, b"\n");
+}

@@ -1,0 +1,3 @@
+-- What is said of a verdict.
+pub mod Words
+pub mod At
