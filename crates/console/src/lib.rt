@@ -1,11 +1,39 @@
-// What the programs share: a file or standard input read whole into lent room, and a verdict said in one line.
+// What the programs share: room for each file, a file or standard input read whole into it, and a verdict said in one line.
 
+ghost use mathlib.Core.Path.{_≡_};
+ghost use lib.ListN.{length};
 ghost use Rattle.io.specs.Counts.{Counts};
 use judge::Verdict;
 use libc::STDERR_FILENO;
 use libc::STDIN_FILENO;
 use libc::STDOUT_FILENO;
 use says::At;
+
+// Room for each file: a byte more than the longest that is allowed, so that a file that is too long has a wrong length here
+// too. Only the length is said, which lending an array as a slice needs.
+pub fn room_for_vertices() -> [u8; 8193]
+    ensures { λ r. ⌜ 8193 ≡ length r ⌝ }
+{
+    [0; 8193]
+}
+
+pub fn room_for_polygons() -> [u8; 32769]
+    ensures { λ r. ⌜ 32769 ≡ length r ⌝ }
+{
+    [0; 32769]
+}
+
+pub fn room_for_question() -> [u8; 17]
+    ensures { λ r. ⌜ 17 ≡ length r ⌝ }
+{
+    [0; 17]
+}
+
+pub fn room_for_route() -> [u8; 131105]
+    ensures { λ r. ⌜ 131105 ≡ length r ⌝ }
+{
+    [0; 131105]
+}
 
 // Reads the file to the front of the room and answers how many bytes it has: none where it cannot be opened or read. A file
 // that is as long as the room, or longer, fills it: lend a byte more than the longest file may have, and its length is wrong.
