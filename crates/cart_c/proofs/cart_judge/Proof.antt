@@ -1,0 +1,27 @@
+-- `cart_c::cart_judge` meets its contract: it is made of what its callees ensure. Assumes nothing.
+use borrow.Author.Needs.{needs}
+use Rattle.cart_c.proofs.cart_judge.Statement.{statement}
+use Rattle.cart_c.proofs.cart_judge.Tie as tie
+
+judge-requires : tie.Need-judge-requires
+judge-requires c κs = search needs
+
+verdict-at-requires : tie.Need-verdict-at-requires
+verdict-at-requires c κs = search needs
+
+put-requires : tie.Need-put-requires
+put-requires c κs = search needs
+
+number-requires : tie.Need-number-requires
+number-requires c κs = search needs
+
+returns : tie.Need-returns
+returns c =
+    let c1 = c .before in
+    let c2 = c1 .before in
+    let c4 = c2 .before .before in
+    rw (← c4 .judge .ensures, ← c2 .verdict-at .ensures) (c .number .ensures, c1 .put .ensures)
+
+pub cart-judge-spec : {M : Type 1} → statement M
+cart-judge-spec =
+    tie.close (tie.spec judge-requires verdict-at-requires put-requires number-requires returns)

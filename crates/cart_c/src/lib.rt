@@ -1,0 +1,46 @@
+// The judge for a controller's firmware. A slice goes to C as its pointer and its length, a `&mut` as a pointer; the header
+// include/cart.h has a word on each function. Each takes any bytes, keeps nothing between calls and calls nothing outside.
+
+ghost use mathlib.Core.Path.{_≡_};
+ghost use lib.ListN.{length};
+ghost use Rattle.judge.specs.Verdict.{verdictOf, verdictNumber, verdictRecord};
+ghost use Rattle.says.specs.Words.{wordsOf, laid};
+ghost use Rattle.says.specs.At.{atOf};
+ghost use Rattle.cart_c.specs.Written.{recordWritten};
+use says::At;
+
+// Writes the record, if there is one.
+fn put(fault: &mut usize, at: At)
+    ensures { λ _. ⌜ now (fault .exit) ≡ recordWritten at (now (fault .entry)) ⌝ }
+{
+    let At::Record(lowest) = at else {
+        return;
+    };
+    *fault = lowest;
+}
+
+// Document 01's number: 0 where the route is accepted, else 2 to 9 or 20 to 23, and the record of 4, 5, 6, 21, 22 and 23.
+#[no_mangle]
+pub extern "C" fn cart_judge(
+    vertices: &[u8],
+    polygons: &[u8],
+    question: &[u8],
+    route: &[u8],
+    fault: &mut usize,
+) -> u32
+    ensures { λ r. ⌜ r ≡ verdictNumber (verdictOf 8 (now (vertices .entry)) (now (polygons .entry)) (now (question .entry)) (now (route .entry))) ⌝ }
+    ensures { λ _. ⌜ now (fault .exit) ≡ recordWritten (atOf (verdictRecord (verdictOf 8 (now (vertices .entry)) (now (polygons .entry)) (now (question .entry)) (now (route .entry))))) (now (fault .entry)) ⌝ }
+{
+    let verdict = judge::judge(vertices, polygons, question, route);
+    put(fault, says::verdict_at(verdict));
+    verdict.number()
+}
+
+// The words for a number at the front of the room, and how many bytes they take.
+#[no_mangle]
+pub extern "C" fn cart_words(number: u32, room: &mut [u8; 64]) -> usize
+    ensures { λ r. ⌜ r ≡ length (wordsOf number) ⌝ }
+    ensures { λ _. ⌜ now (room .exit) ≡ laid (wordsOf number) (now (room .entry)) ⌝ }
+{
+    says::words(number, room)
+}
