@@ -15,12 +15,7 @@ fn main() {
     judge_files(&mut vertices, &mut polygons, &mut question, &mut route);
 }
 
-fn judge_files(
-    vertices: &mut [u8],
-    polygons: &mut [u8],
-    question: &mut [u8],
-    route: &mut [u8],
-) {
+fn judge_files(vertices: &mut [u8], polygons: &mut [u8], question: &mut [u8], route: &mut [u8]) {
     let v = console::read_file(b"floor.vtx", vertices);
     let p = console::read_file(b"floor.ply", polygons);
     let q = console::read_file(b"question", question);
@@ -87,13 +82,7 @@ fn judge_front(vertices: &[u8], polygons: &[u8], question: &[u8], route: &[u8], 
 }
 
 // A zero byte behind the route, if there is room for one.
-fn judge_longer(
-    vertices: &[u8],
-    polygons: &[u8],
-    question: &[u8],
-    route: &mut [u8],
-    n: usize,
-) {
+fn judge_longer(vertices: &[u8], polygons: &[u8], question: &[u8], route: &mut [u8], n: usize) {
     if n < route.len() {
         route[n] = 0;
         io::write_all(STDOUT_FILENO, b"one zero byte longer: ");

@@ -1,5 +1,9 @@
 -- `cart_c::cart_judge` meets its contract: it is made of what its callees ensure. Assumes nothing.
+use mathlib.Core.Path.{_∙_, ap}
 use borrow.Author.Needs.{needs}
+use Rattle.judge.specs.Verdict.{verdictNumber, verdictRecord}
+use Rattle.says.specs.At.{atOf}
+use Rattle.cart_c.specs.Written.{recordWritten}
 use Rattle.cart_c.proofs.cart_judge.Statement.{statement}
 use Rattle.cart_c.proofs.cart_judge.Tie as tie
 
@@ -20,7 +24,10 @@ returns c =
     let c1 = c .before in
     let c2 = c1 .before in
     let c4 = c2 .before .before in
-    rw (← c4 .judge .ensures, ← c2 .verdict-at .ensures) (c .number .ensures, c1 .put .ensures)
+    let before = c4 .before .before .before .before .before .args .fault .now in
+    let judged = c4 .judge .ensures in
+    let at = c2 .verdict-at .ensures ∙ ap (λ verdict. atOf (verdictRecord verdict)) judged in
+    (c .number .ensures ∙ ap verdictNumber judged, c1 .put .ensures ∙ ap (λ found. recordWritten found before) at)
 
 pub cart-judge-spec : {M : Type 1} → statement M
 cart-judge-spec =
