@@ -5,8 +5,8 @@
 
    Bytes are little-endian, whatever the processor. The byte pointers need no alignment. A pointer must point to as many bytes
    as the length beside it says, also where that is 0 (then any valid address will do, but not NULL), and nothing may write
-   there while the call runs. The functions keep nothing between calls, lend nothing, call nothing outside and take no
-   heap: they run on the caller's stack, of which cart_judge uses a few kilobytes at most. */
+   there while the call runs. The functions keep nothing between calls and take no heap. All that they want of the linker is
+   memcpy and memset. On document 01's example cart_judge took 3,121 bytes of the caller's stack (x86-64). */
 
 #ifndef CART_H
 #define CART_H
