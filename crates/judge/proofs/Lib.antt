@@ -9,3 +9,5 @@ pub mod Placed
 pub mod Chained
 pub mod Ended
 pub mod Answered
+pub mod Legs
+pub mod Lengths
