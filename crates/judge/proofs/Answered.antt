@@ -1,7 +1,6 @@
 -- The read-out's answers by their cases: too short, listed, or what the judge says. Assumes nothing.
 use Prim.Native.Nat.{ℕ, _*_, _≤_, _<_}
-use native.Mathlib.Omega.{arith}
-use mathlib.Core.Path.{_≡_, refl, sym, ap, ap₂, _∙_, subst}
+use mathlib.Core.Path.{_≡_, sym, ap, ap₂, _∙_, subst}
 use mathlib.Core.List.{List}
 use borrow.Author.Tests.{lt-ltb, le-ltb}
 use lib.Ieee.{Float}
@@ -10,8 +9,7 @@ use lib.Seq.{sets}
 use Rattle.helpers.specs.declared.point.Point.{Point}
 use Rattle.floor.specs.declared.Refusal.{Refusal}
 use Rattle.floor.specs.declared.Look.the-variants.{Inside, Refused as LookRefused}
-use Rattle.floor.specs.Stored.{Floor, Question, floorOf, questionOf}
-use Rattle.floor.specs.Where.{polygonOf}
+use Rattle.floor.specs.Stored.{Floor, floorOf, questionOf}
 use Rattle.floor.specs.Look.{lookOf}
 use Rattle.route.specs.declared.Judged.{Judged}
 use Rattle.route.specs.declared.Judged.the-variants.{Accepted, Length, NotSeed, NotStep, NotEnd}

@@ -1,34 +1,33 @@
 -- The parent chain record by record, and what the listing loop keeps: the points that are left, put behind those that stand, are all the points. Rests on what the judge's
 -- loop keeps (proofs/Following) and on points in a slice (proofs/Placed). Assumes nothing.
-use Prim.Native.Nat.{ℕ, zero, suc, _+_, _-_, _*_, _/_, _≤_, _<_}
+use Prim.Native.Nat.{ℕ, suc, _+_, _-_, _*_, _/_, _≤_, _<_}
 use native.Mathlib.Omega.{arith}
 use mathlib.Core.Path.{_≡_, refl, sym, ap, ap₂, _∙_, subst}
-use mathlib.Core.Bool.{Bool, true, false, cond}
+use mathlib.Core.Bool.{Bool, true, false}
 use mathlib.Core.List.{List, [], _∷_}
 use lib.Ieee.{Float}
 use lib.ListN.{length}
 use lib.Seq.{sets}
-use Rattle.float.proofs.Tests.{untrue}
 use Rattle.helpers.specs.declared.point.Point.{Point}
 use Rattle.helpers.specs.Point.{sameOf}
 use Rattle.floor.specs.Stored.{Floor, floorOf}
 use Rattle.route.specs.declared.Step.{Step}
-use Rattle.route.specs.declared.Sought.the-variants.{Found, Missing}
+use Rattle.route.specs.declared.Sought.the-variants.{Found}
 use Rattle.route.specs.declared.Judged.{Judged}
-use Rattle.route.specs.declared.Judged.the-variants.{Accepted, Length, NotSeed, NotStep, NotEnd}
+use Rattle.route.specs.declared.Judged.the-variants.{Accepted, Length, NotSeed, NotStep}
 use Rattle.route.specs.World.{World}
 use Rattle.route.specs.Record.{recordAt, records, seedBytes}
-use Rattle.route.specs.Judge.{lengthRight, sameBytes, findStep, judgeFrom, judgeOf, judgedNumber}
+use Rattle.route.specs.Judge.{lengthRight, sameBytes, findStep, judgeOf, judgedNumber}
 use Rattle.route.proofs.Turns.{length-gives, begins-length, begins-wrong}
 use Rattle.steps.specs.declared.Node.{Node}
-use Rattle.steps.specs.Steps.{rootAfter, stepsFrom, seedNode, enter}
+use Rattle.steps.specs.Steps.{stepsFrom, seedNode, enter}
 use Rattle.steps.specs.World.{worldIn}
 use Rattle.judge.specs.Ready.{Ready}
 use Rattle.judge.specs.Verdict.{asked}
 use Rattle.judge.specs.Points.{chainFrom, chainOf, lastPoints, pointsAlong, pointsOf}
 use Rattle.judge.specs.Readout.{floatsOf, putPoint, putRoot}
 use Rattle.judge.proofs.Placed.{put-more, put-long}
-use Rattle.judge.proofs.Following.{seed-points, Follows, follows-begin, follows-on, follows-stops}
+use Rattle.judge.proofs.Following.{seed-points, Follows, follows-on}
 
 -- ---- accepted: the length is right, and record 0 is the seed
 

@@ -2,16 +2,13 @@
 -- points as the route. Rests on the chain record by record (proofs/Chained). Assumes nothing.
 use Prim.Native.Nat.{ℕ, zero, suc, _+_, _-_, _*_, _/_, _≤_, _<_, _^_}
 use native.Mathlib.Omega.{arith}
-use native.Mathlib.Numerals.{add-one}
-use mathlib.Core.Path.{_≡_, refl, sym, ap, ap₂, _∙_, subst}
+use mathlib.Core.Path.{_≡_, refl, sym, ap, _∙_, subst}
 use mathlib.Core.Bool.{Bool, true, false, cond, _&&_}
 use mathlib.Core.List.{List, [], _∷_, _++_}
-use lib.Dec.{lit<}
 use lib.Ieee.{Float}
 use lib.ListN.{length, take, drop}
-use lib.Seq.{take-at, drop-at, take-take, drop-drop, take-add}
-use Rattle.float.proofs.Tests.{and-true, untrue}
-use Rattle.word.specs.Word.{Bytes, littleEndian, bytesOf, wordAt}
+use lib.Seq.{take-at, take-take, drop-drop, take-add}
+use Rattle.word.specs.Word.{littleEndian, bytesOf, wordAt}
 use Rattle.word.proofs.Runs.{length-part}
 use Rattle.word.proofs.Bytes.{length-bytesOf, littleEndian-bytesOf}
 use Rattle.helpers.specs.declared.point.Point.{Point}
@@ -19,7 +16,7 @@ use Rattle.helpers.specs.declared.Turn.{Turn}
 use Rattle.helpers.specs.declared.Turn.the-variants.{Around, Straight}
 use Rattle.helpers.specs.Point.{sameOf}
 use Rattle.helpers.specs.Helpers.{turningPointOf}
-use Rattle.floor.specs.Stored.{Floor, floorOf}
+use Rattle.floor.specs.Stored.{Floor}
 use Rattle.route.specs.declared.Step.{Step}
 use Rattle.route.specs.declared.Sought.{Sought}
 use Rattle.route.specs.declared.Sought.the-variants.{Found, Missing}
@@ -27,12 +24,11 @@ use Rattle.route.specs.declared.Judged.{Judged}
 use Rattle.route.specs.declared.Judged.the-variants.{Accepted, Length, NotSeed, NotStep, NotEnd}
 use Rattle.route.specs.World.{World}
 use Rattle.route.specs.Record.{wordsBytes, endWords, endBytes, recordAt, records, bits}
-use Rattle.route.specs.Judge.{lengthRight, sameBytes, findStep, onwards, judgeEnd, judgeFrom, judgeOf, judgedNumber}
+use Rattle.route.specs.Judge.{sameBytes, findStep, onwards, judgeEnd, judgeFrom, judgeOf}
 use Rattle.route.proofs.Find.{same-true}
 use Rattle.route.proofs.Trails.{same-parts}
 use Rattle.route.proofs.Turns.{length-gives, begins}
 use Rattle.steps.specs.declared.Node.{Node}
-use Rattle.steps.specs.declared.Ending.{Ending}
 use Rattle.steps.specs.Steps.{stepsFrom, seedNode, enter}
 use Rattle.steps.specs.World.{lastLeg, endingOf, worldIn}
 use Rattle.judge.specs.Verdict.{asked}

@@ -1,33 +1,27 @@
 -- Demand 3's "exactly", for the judge as it stands: `verdict-exactly` for every verdict, both ways; and by document 01's numbers, of an accepted floor with start and goal
 -- inside: 0 exactly for the true routes, each of 20 to 23 exactly in its case with its record, and a file cut short is refused. Rests on the laws of any lawful world
 -- (route, proofs/Verdicts and Cut), on this world's being lawful (steps, proofs/World) and on the exact cases of a look (floor, proofs/Exact). Assumes nothing.
-use Prim.Native.Nat.{ℕ, _+_, _-_, _*_, _/_, _<_}
+use Prim.Native.Nat.{ℕ, _<_}
 use mathlib.Core.Path.{_≡_, refl, sym, ap, _∙_, subst}
-use mathlib.Core.List.{List, [], _∷_}
-use mathlib.Core.Logic.{_↔_, _⊎_}
-use lib.ListN.{length, take}
+use mathlib.Core.List.{List}
+use mathlib.Core.Logic.{_↔_}
+use lib.ListN.{length}
 use Rattle.word.specs.Word.{Bytes}
-use Rattle.floor.specs.declared.Refusal.{Refusal}
-use Rattle.floor.specs.declared.Refusal.the-variants.{VertexLength, PolygonLength, Vertex, Corners, Links, Question, StartOutside, GoalOutside}
 use Rattle.floor.specs.declared.Look.{Look}
 use Rattle.floor.specs.declared.Look.the-variants.{Inside as LookInside, Refused as LookRefused}
 use Rattle.floor.specs.Stored.{Floor, floorOf, questionOf}
 use Rattle.floor.specs.Where.{polygonOf}
-use Rattle.floor.specs.Look.{lookOf, refusalNumber}
+use Rattle.floor.specs.Look.{lookOf}
 use Rattle.floor.proofs.Exact.{in-some, polygon-is-least, least-is-polygon, each-exactly}
-use Rattle.route.specs.declared.Judged.{Judged}
-use Rattle.route.specs.declared.Judged.the-variants.{Accepted, Length, NotSeed, NotStep, NotEnd}
-use Rattle.route.specs.World.{World, Lawful, TrueRoute}
-use Rattle.route.specs.Verdict.{RouteLength, SeedFault, StepFault, EndFault, Case as RouteCase}
-use Rattle.route.specs.Judge.{judgeOf, judgedNumber, judgedRecord}
+use Rattle.route.specs.World.{World, Lawful}
+use Rattle.route.specs.Judge.{judgeOf}
 use Rattle.route.proofs.Verdicts.{judged-exactly}
-use Rattle.route.proofs.Cut.{cut-is-refused}
 use Rattle.steps.specs.declared.Node.{Node}
 use Rattle.steps.specs.World.{worldIn, worldOf}
 use Rattle.steps.proofs.World.{lawful}
 use Rattle.judge.specs.declared.Verdict.{Verdict}
 use Rattle.judge.specs.declared.Verdict.the-variants.{Refused, Read}
-use Rattle.judge.specs.Verdict.{judgeIf, verdictOf, verdictNumber, verdictRecord}
+use Rattle.judge.specs.Verdict.{judgeIf, verdictOf}
 use Rattle.judge.specs.Exactly.{Inside, Case}
 
 module _ (s : ℕ) (vs ps question : List ℕ) where

@@ -1,6 +1,6 @@
 -- Record by record: what the judge's loop keeps, that it holds at the seed, and that a found step carries it on. Rests on the judge turn by turn (route, proofs/Turns)
 -- and on it that steps lead to nodes that stand on the floor (steps, proofs/Stands). Assumes nothing.
-use Prim.Native.Nat.{ℕ, _+_, _-_, _*_, _/_, _≤_, _<_, _^_}
+use Prim.Native.Nat.{ℕ, _+_, _-_, _*_, _/_, _≤_, _<_}
 use native.Mathlib.Omega.{arith}
 use mathlib.Core.Path.{_≡_, refl, sym, ap, _∙_, subst}
 use mathlib.Core.Bool.{Bool, true, false, cond}
@@ -10,14 +10,13 @@ use Rattle.helpers.specs.declared.point.Point.{Point}
 use Rattle.helpers.specs.Point.{sameOf}
 use Rattle.floor.specs.Stored.{Floor, floorOf}
 use Rattle.route.specs.declared.Step.{Step}
-use Rattle.route.specs.declared.Judged.{Judged}
 use Rattle.route.specs.declared.Judged.the-variants.{NotStep}
 use Rattle.route.specs.declared.Sought.the-variants.{Found, Missing}
 use Rattle.route.specs.World.{World}
 use Rattle.route.specs.Record.{recordAt, seedBytes}
 use Rattle.route.specs.Judge.{lengthRight, sameBytes, findStep, judgeFrom, judgeOf}
 use Rattle.route.proofs.Find.{find-found}
-use Rattle.route.proofs.Turns.{length-gives, begins, begins-wrong, goes-on-to, stops-at, ends-at}
+use Rattle.route.proofs.Turns.{length-gives, begins, goes-on-to, stops-at, ends-at}
 use Rattle.steps.specs.declared.Node.{Node}
 use Rattle.steps.specs.Steps.{rootAfter, stepsFrom, seedNode, enter}
 use Rattle.steps.specs.World.{worldIn}

@@ -2,16 +2,16 @@
 -- crate float's `eq-same`. Assumes nothing.
 use Prim.Native.Nat.{ℕ, zero, suc, _+_, _-_, _*_, _/_, _%_, _^_, compare}
 use native.Mathlib.Omega.{arith}
-use mathlib.Core.Path.{_≡_, refl, sym, ap, ap₂, _∙_, subst}
+use mathlib.Core.Path.{_≡_, refl, sym, ap, _∙_}
 use mathlib.Core.Bool.{Bool, true, false, cond, not, _&&_, Bool·beq}
-use mathlib.Core.Logic.{_⊎_, ⊎-elim}
+use mathlib.Core.Logic.{⊎-elim}
 use mathlib.Core.List.{List, [], _∷_}
 use borrow.Author.Tests.{ltb-false}
 use lib.Dec.{T, ltb}
 use lib.IntN.{ℤ, pos}
-use lib.Ieee.{Float, nan, inf, fin, Format, binary32, up, down, odd, units, round, sum, add, neg, sub, mul, eq, fits, low, prec, emax, size, nearest}
+use lib.Ieee.{Float, nan, inf, fin, binary32, up, down, odd, units, round, sum, add, neg, sub, mul, eq, fits, low, prec, emax, size, nearest}
 use Rattle.float.proofs.Tests.{and-true}
-use Rattle.float.proofs.Order.{IsZero, eq-same}
+use Rattle.float.proofs.Order.{eq-same}
 use Rattle.helpers.specs.declared.point.Point.{Point}
 use Rattle.helpers.specs.Point.{sameOf, minusOf, dotOf, distanceOf}
 use Rattle.helpers.specs.Point.{lengthOf as pointLength}

@@ -1,10 +1,10 @@
 -- 01's sentence on points and length, and the end record: it carries the number of the points, and their f32 sum in order from 0.0. Rests on the count (proofs/Ended), on legs
 -- from equal roots (proofs/Legs) and on the exact cases (proofs/Exact). Assumes nothing.
 use Prim.Native.Nat.{ℕ, zero, suc, _+_, _-_, _/_}
-use mathlib.Core.Path.{_≡_, refl, sym, ap, ap₂, _∙_, subst}
+use mathlib.Core.Path.{_≡_, refl, sym, ap, ap₂, _∙_}
 use mathlib.Core.Bool.{Bool, true, false, cond}
 use mathlib.Core.List.{List, [], _∷_}
-use lib.Ieee.{Float, binary32, add, fits}
+use lib.Ieee.{Float, binary32, add}
 use lib.Ieee.Bits.{ofBits-fits}
 use lib.Ieee.Fits.{add-fits}
 use lib.ListN.{length}
@@ -12,11 +12,11 @@ use Rattle.word.specs.Word.{Bytes}
 use Rattle.helpers.specs.declared.point.Point.{Point}
 use Rattle.helpers.specs.declared.Turn.{Turn}
 use Rattle.helpers.specs.declared.Turn.the-variants.{Around, Straight}
-use Rattle.helpers.specs.Point.{zero as zeroFloat, pointOf, fromBitsOf, sameOf, plusOf, distanceOf}
+use Rattle.helpers.specs.Point.{pointOf, fromBitsOf, sameOf, plusOf, distanceOf}
 use Rattle.helpers.specs.Helpers.{turningPointOf}
 use Rattle.walk.specs.declared.SuccessorType.{SuccessorType}
 use Rattle.walk.specs.declared.SuccessorType.the-variants.{LeftNonObservable, Observable, RightNonObservable}
-use Rattle.floor.specs.Stored.{Floor, Question, floorOf, questionOf, vertex}
+use Rattle.floor.specs.Stored.{Floor, floorOf, questionOf, vertex}
 use Rattle.floor.specs.Where.{polygonOf}
 use Rattle.route.specs.declared.Step.{Step}
 use Rattle.route.specs.declared.Sought.{Sought}

@@ -1,7 +1,6 @@
 -- What a look that finds start and goal inside tells of the floor and of the question. Rests on the exact cases of a look (floor, proofs/Exact). Assumes nothing.
 use Prim.Native.Nat.{ℕ, _*_, _/_, _≤_, _<_}
-use native.Mathlib.Omega.{arith}
-use mathlib.Core.Path.{_≡_, refl, sym, ap, ap₂, _∙_, subst}
+use mathlib.Core.Path.{_≡_, ap₂, _∙_, subst}
 use mathlib.Core.List.{List}
 use lib.Dec.{lit<, lit≤}
 use lib.ListN.{length}

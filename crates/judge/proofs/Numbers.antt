@@ -2,12 +2,12 @@
 -- of 20 to 23 exactly in its case, with its record; and an accepted file cut short anywhere, at any byte, is 20 or 23. Rests on proofs/Exact. Assumes nothing.
 use Prim.Native.Nat.{ℕ, _-_, _/_, _<_}
 use native.Mathlib.Omega.{arith}
-use mathlib.Core.Path.{_≡_, refl, sym, ap, _∙_, subst}
+use mathlib.Core.Path.{_≡_, refl, sym, ap, _∙_}
 use mathlib.Core.List.{List, [], _∷_}
 use mathlib.Core.Logic.{_↔_, _⊎_, inl, inr, ⊎-elim}
 use lib.ListN.{length, take, getD}
 use Rattle.word.specs.Word.{Bytes}
-use Rattle.floor.specs.Stored.{Floor, floorOf, questionOf}
+use Rattle.floor.specs.Stored.{floorOf, questionOf}
 use Rattle.route.specs.declared.Judged.{Judged}
 use Rattle.route.specs.declared.Judged.the-variants.{Accepted, Length, NotSeed, NotStep, NotEnd}
 use Rattle.route.specs.World.{World, TrueRoute}
@@ -18,7 +18,6 @@ use Rattle.route.proofs.Cut.{cut-is-refused as cut-in-world}
 use Rattle.steps.specs.declared.Node.{Node}
 use Rattle.steps.specs.World.{worldOf}
 use Rattle.judge.specs.declared.Verdict.{Verdict}
-use Rattle.judge.specs.declared.Verdict.the-variants.{Read}
 use Rattle.judge.specs.Verdict.{verdictOf, verdictNumber, verdictRecord}
 use Rattle.judge.specs.Exactly.{Inside}
 use Rattle.judge.proofs.Exact.{world-is-lawful, verdict-inside}

@@ -3,19 +3,18 @@ use Prim.Native.Nat.{ℕ, suc, _+_, _*_, _≤_}
 use native.Mathlib.Omega.{arith}
 use native.Mathlib.Numerals.{add-one}
 use mathlib.Core.Path.{_≡_, refl, sym, ap, _∙_, subst}
-use mathlib.Core.Bool.{Bool, true, false, cond}
+use mathlib.Core.Bool.{true, false}
 use mathlib.Core.List.{List, [], _∷_}
 use lib.Ieee.{Float}
 use lib.ListN.{length, set, length-set}
-use lib.Seq.{sets, length-sets}
+use lib.Seq.{sets}
 use Rattle.helpers.specs.declared.point.Point.{Point}
 use Rattle.helpers.specs.declared.Turn.{Turn}
 use Rattle.helpers.specs.declared.Turn.the-variants.{Around, Straight}
-use Rattle.helpers.specs.Point.{sameOf}
 use Rattle.helpers.specs.Helpers.{turningPointOf}
 use Rattle.steps.specs.declared.Node.{Node}
 use Rattle.judge.specs.Points.{lastPoints}
-use Rattle.judge.specs.Readout.{floatsOf, putPoint, putRoot}
+use Rattle.judge.specs.Readout.{floatsOf, putPoint}
 
 -- ---- a point
 

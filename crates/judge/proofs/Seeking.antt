@@ -1,17 +1,16 @@
 -- A record is sought among the steps of a node by one walk round its polygon: what one part of an edge decides, and what is left to the parts after it.
 -- Rests on the laws of the walk (steps, proofs/Left). Assumes nothing.
-use Prim.Native.Nat.{ℕ, _*_, _/_, _≤_, _<_}
+use Prim.Native.Nat.{ℕ, _<_}
 use native.Mathlib.Omega.{arith}
-use mathlib.Core.Path.{_≡_, refl, sym, ap, _∙_, subst}
+use mathlib.Core.Path.{_≡_, refl, sym, ap, _∙_}
 use mathlib.Core.Bool.{Bool, true, false, cond}
 use mathlib.Core.List.{List, [], _∷_}
 use borrow.Author.Tests.{eq-eqb, ne-eqb}
-use lib.Dec.{eqb}
 use lib.ListN.{length}
 use Rattle.walk.specs.declared.Part.{Part}
 use Rattle.walk.specs.Walk.{partAt}
 use Rattle.walk.specs.Round.{Successor}
-use Rattle.walk.specs.Turns.{isOverOf, edgeNumberOf}
+use Rattle.walk.specs.Turns.{isOverOf}
 use Rattle.floor.specs.Stored.{Floor, Polygon, floorOf, polygonAt, polygon}
 use Rattle.floor.proofs.Inside.{slot-inside}
 use Rattle.route.specs.declared.Step.{Step}
@@ -24,7 +23,7 @@ use Rattle.steps.specs.declared.going.Going.{Going}
 use Rattle.steps.specs.declared.view.View.{View}
 use Rattle.steps.specs.declared.view.Permitted.{Permitted}
 use Rattle.steps.specs.declared.view.Permitted.the-variants.{Yes, No}
-use Rattle.steps.specs.Steps.{candidates, stepOf, andThen, stepsOver, stepsFrom}
+use Rattle.steps.specs.Steps.{stepOf, andThen, stepsOver, stepsFrom}
 use Rattle.steps.specs.View.{viewOf, stepBy}
 use Rattle.steps.specs.Going.{beginGoing, nextGoing, current, leftIn, Stands, Turning, Goes}
 use Rattle.steps.proofs.Rounds.{its-polygon, turning}

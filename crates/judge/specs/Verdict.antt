@@ -4,10 +4,9 @@ use Prim.Native.Nat.{ℕ}
 use mathlib.Core.Bool.{_&&_, cond}
 use mathlib.Core.List.{List}
 use Rattle.helpers.specs.declared.point.Point.{Point}
-use Rattle.floor.specs.declared.Refusal.{Refusal}
 use Rattle.floor.specs.declared.Look.{Look}
 use Rattle.floor.specs.declared.Look.the-variants.{Inside, Refused as LookRefused}
-use Rattle.floor.specs.Stored.{Floor, Question, floorOf, questionOf}
+use Rattle.floor.specs.Stored.{Question, floorOf, questionOf}
 use Rattle.floor.specs.Look.{lookOf, refusalNumber, refusalRecord}
 use Rattle.route.specs.declared.Judged.{Judged}
 use Rattle.route.specs.declared.Judged.the-variants.{Accepted, NotEnd}

@@ -1,7 +1,7 @@
 // Which of a node's steps a record of the route is: one walk round the node's polygon.
 
 ghost use mathlib.Core.Path.{_≡_};
-ghost use Prim.Native.Nat.{_+_, _*_, _/_, _≤_, _<_};
+ghost use Prim.Native.Nat.{_+_, _*_, _/_, _≤_};
 ghost use lib.ListN.{length};
 ghost use Rattle.floor.specs.Stored.{floorOf};
 ghost use Rattle.floor.specs.Where.{marksOf};

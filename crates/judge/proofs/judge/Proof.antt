@@ -1,6 +1,6 @@
 -- `judge` meets its contract. Assumes nothing.
 use native.Mathlib.Omega.{arith}
-use mathlib.Core.Path.{_≡_, refl, sym, ap, _∙_, subst}
+use mathlib.Core.Path.{sym, ap, _∙_}
 use lib.Dec.{lit<, lit≤}
 use borrow.Author.Needs.{needs}
 use denote.Ref.{now}

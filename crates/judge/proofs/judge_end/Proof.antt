@@ -1,9 +1,6 @@
 -- `judge_end` meets its contract. Assumes nothing.
-use mathlib.Core.Path.{_≡_, sym, ap, _∙_}
+use mathlib.Core.Path.{sym}
 use borrow.Author.Needs.{needs}
-use borrow.Author.Tests.{eq-eqb, ne-eqb}
-use Rattle.route.specs.Record.{recordAt}
-use Rattle.judge.specs.Verdict.{endOf}
 use Rattle.judge.proofs.Ending.{end-is, end-is-not, end-outside}
 use Rattle.judge.proofs.judge_end.Statement.{statement}
 use Rattle.judge.proofs.judge_end.Tie as tie

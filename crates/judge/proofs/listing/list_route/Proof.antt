@@ -1,7 +1,6 @@
 -- `list_route` meets its contract: the end record has the number of points. Assumes nothing.
 use native.Mathlib.Omega.{arith}
-use mathlib.Core.Path.{_≡_, refl, sym, ap, _∙_}
-use lib.ListN.{length}
+use mathlib.Core.Path.{_∙_}
 use denote.Ref.{now}
 use Rattle.floor.specs.Stored.{floorOf}
 use Rattle.route.proofs.Turns.{length-gives}

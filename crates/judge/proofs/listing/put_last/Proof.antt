@@ -1,8 +1,8 @@
 -- `put_last` meets its contract. Assumes nothing.
 use native.Mathlib.Omega.{arith}
 use denote.Ref.{now}
-use mathlib.Core.Path.{_≡_, refl, sym, ap, _∙_}
-use Rattle.judge.proofs.Placed.{put-one, put-two, put-long, last-of-seed, last-around, last-straight, room-for-one, room-for-two, long-after, two-after}
+use mathlib.Core.Path.{_∙_}
+use Rattle.judge.proofs.Placed.{put-one, last-of-seed, last-around, last-straight, room-for-one, room-for-two, long-after, two-after}
 use borrow.Author.Needs.{needs}
 use Rattle.judge.proofs.listing.put_last.Statement.{statement}
 use Rattle.judge.proofs.listing.put_last.Tie as tie

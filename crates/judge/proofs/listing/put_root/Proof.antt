@@ -1,5 +1,5 @@
 -- `put_root` meets its contract. Assumes nothing.
-use mathlib.Core.Path.{refl, sym, _∙_}
+use mathlib.Core.Path.{sym, _∙_}
 use Rattle.judge.specs.Readout.{putRoot}
 use borrow.Author.Needs.{needs}
 use Rattle.judge.proofs.listing.put_root.Statement.{statement}

@@ -1,6 +1,6 @@
 -- `read_out` meets its contract. Assumes nothing.
 use native.Mathlib.Omega.{arith}
-use mathlib.Core.Path.{_≡_, refl, sym, ap, _∙_}
+use mathlib.Core.Path.{sym, _∙_}
 use lib.Dec.{lit<, lit≤}
 use denote.Ref.{now}
 use Rattle.judge.proofs.Looking.{inside-tells, ready}

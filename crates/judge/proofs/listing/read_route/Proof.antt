@@ -1,5 +1,5 @@
 -- `read_route` meets its contract, verdict by verdict. Assumes nothing.
-use mathlib.Core.Path.{_≡_, refl, sym, ap, _∙_}
+use mathlib.Core.Path.{sym, _∙_}
 use denote.Ref.{now}
 use Rattle.judge.proofs.Answered.{read-accepted, read-length, read-seed, read-step, read-end}
 use borrow.Author.Needs.{needs}

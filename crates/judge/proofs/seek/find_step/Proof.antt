@@ -1,7 +1,6 @@
 -- `seek::find_step` meets its contract. The loop's invariant: the record is sought among the parts that are left. Assumes nothing.
 use Prim.Native.Nat.{_*_, _/_, _<_}
-use mathlib.Core.Path.{_≡_, refl, sym, ap, _∙_, subst}
-use mathlib.Core.Bool.{true, false}
+use mathlib.Core.Path.{_≡_, sym, _∙_, subst}
 use lib.ListN.{length}
 use borrow.Author.Needs.{needs}
 use borrow.Author.Tests.{not-true, not-false}
@@ -11,7 +10,7 @@ use Rattle.route.specs.Record.{recordAt}
 use Rattle.steps.specs.declared.going.Going.{Going}
 use Rattle.steps.specs.declared.view.View.{View}
 use Rattle.steps.specs.View.{viewOf}
-use Rattle.steps.specs.Going.{beginGoing, nextGoing, leftIn, Stands, Goes}
+use Rattle.steps.specs.Going.{leftIn, Goes}
 use Rattle.steps.proofs.Left.{begin-goes, next-goes, part-below-three}
 use Rattle.judge.proofs.Seeking.{none-in-goal, Sought-in, seeking-begins, seeking-ends, edge-inside, less-left, by-view, seeking-finds, seeking-goes-on}
 use Rattle.judge.proofs.seek.find_step.Statement.{statement}

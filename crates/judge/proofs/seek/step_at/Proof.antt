@@ -1,5 +1,4 @@
 -- `seek::step_at` meets its contract. Assumes nothing.
-use mathlib.Core.Path.{_≡_, sym, ap, _∙_}
 use borrow.Author.Needs.{needs}
 use Rattle.route.specs.Record.{recordAt}
 use Rattle.route.proofs.Stored.{step-tested}
