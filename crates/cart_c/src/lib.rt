@@ -1,12 +1,15 @@
-// The judge for a controller's firmware. A slice goes to C as its pointer and its length, a `&mut` as a pointer; the header
-// include/cart.h has a word on each function. Each takes any bytes, keeps nothing between calls and calls nothing outside.
+// The judge and the read-out for a controller's firmware. A slice goes to C as its pointer and its length, a `&mut` as a
+// pointer; the header include/cart.h has a word on each function. Each takes any bytes, keeps nothing between calls and calls
+// nothing outside.
 
 ghost use mathlib.Core.Path.{_≡_};
 ghost use lib.ListN.{length};
 ghost use Rattle.judge.specs.Verdict.{verdictOf, verdictNumber, verdictRecord};
+ghost use Rattle.judge.specs.Readout.{readoutOf, writtenOf, readoutNumber, readoutValues};
 ghost use Rattle.says.specs.Words.{wordsOf, laid};
 ghost use Rattle.says.specs.At.{atOf};
-ghost use Rattle.cart_c.specs.Written.{recordWritten};
+ghost use Rattle.cart_c.specs.Written.{recordWritten, valueWritten};
+use judge::listing::Readout;
 use says::At;
 
 // Writes the record, if there is one.
@@ -17,6 +20,17 @@ fn put(fault: &mut usize, at: At)
         return;
     };
     *fault = lowest;
+}
+
+// Writes the record at fault, or on 0 how many points are listed. 13 comes with neither.
+fn put_value(value: &mut usize, readout: Readout)
+    ensures { λ _. ⌜ now (value .exit) ≡ valueWritten (readoutValues readout) (now (value .entry)) ⌝ }
+{
+    match readout {
+        Readout::Refused(verdict) => put(value, says::verdict_at(verdict)),
+        Readout::Short => {}
+        Readout::Listed(count) => *value = count,
+    }
 }
 
 // Document 01's number: 0 where the route is accepted, else 2 to 9 or 20 to 23, and the record of 4, 5, 6, 21, 22 and 23.
@@ -34,6 +48,26 @@ pub extern "C" fn cart_judge(
     let verdict = judge::judge(vertices, polygons, question, route);
     put(fault, says::verdict_at(verdict));
     verdict.number()
+}
+
+// Judges, then lists the points of an accepted route, x and y of each. Document 01's number: as cart_judge, or 13 where the
+// slice has no room for them. Other than 0, the slice stays as it was.
+#[no_mangle]
+pub extern "C" fn cart_read_out(
+    vertices: &[u8],
+    polygons: &[u8],
+    question: &[u8],
+    route: &[u8],
+    points: &mut [f32],
+    value: &mut usize,
+) -> u32
+    ensures { λ r. ⌜ r ≡ readoutNumber (readoutOf 8 (now (vertices .entry)) (now (polygons .entry)) (now (question .entry)) (now (route .entry)) (now (points .entry))) ⌝ }
+    ensures { λ _. ⌜ now (points .exit) ≡ writtenOf 8 (now (vertices .entry)) (now (polygons .entry)) (now (question .entry)) (now (route .entry)) (now (points .entry)) ⌝ }
+    ensures { λ _. ⌜ now (value .exit) ≡ valueWritten (readoutValues (readoutOf 8 (now (vertices .entry)) (now (polygons .entry)) (now (question .entry)) (now (route .entry)) (now (points .entry)))) (now (value .entry)) ⌝ }
+{
+    let readout = judge::listing::read_out(vertices, polygons, question, route, points);
+    put_value(value, readout);
+    readout.number()
 }
 
 // The words for a number at the front of the room, and how many bytes they take.
