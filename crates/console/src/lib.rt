@@ -89,7 +89,7 @@ pub fn say(verdict: Verdict) {
         At::Record(record) => say_record(record),
         At::Nowhere => (),
     }
-    say_words(number);
+    write_words(STDOUT_FILENO, b" ", number);
 }
 
 fn say_record(record: usize) {
@@ -97,10 +97,11 @@ fn say_record(record: usize) {
     io::print_decimal(STDOUT_FILENO, record as u64);
 }
 
-fn say_words(number: u32) {
+// The words for a number, and the end of the line.
+pub fn write_words(fd: i32, before: &[u8], number: u32) {
     let mut room = [0u8; 64];
     let n = says::words(number, &mut room);
-    io::write_all(STDOUT_FILENO, b" ");
-    io::write_all(STDOUT_FILENO, &room[..n]);
-    io::write_all(STDOUT_FILENO, b"\n");
+    io::write_all(fd, before);
+    io::write_all(fd, &room[..n]);
+    io::write_all(fd, b"\n");
 }

@@ -49,7 +49,7 @@ pub fn words(number: u32, room: &mut [u8; 64]) -> usize
 }
 
 // The record at fault in a floor: a vertex for 4, a polygon for 5 and 6.
-fn refusal_at(refusal: Refusal) -> At
+pub fn refusal_at(refusal: Refusal) -> At
     ensures { λ r. ⌜ r ≡ atOf (refusalRecord refusal) ⌝ }
 {
     match refusal {

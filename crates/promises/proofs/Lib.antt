@@ -1,0 +1,4 @@
+pub mod Routes
+pub mod Budget
+pub mod Refusals
+pub mod Room

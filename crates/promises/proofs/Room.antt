@@ -1,0 +1,177 @@
+-- Room is the only reason for 13: with 32 bytes for each place and 32 more it never comes, and a larger output gets the same route. Assumes nothing.
+use Prim.Native.Nat.{ℕ, _+_, _*_, _≤_, _<_}
+use native.Mathlib.Omega.{arith}
+use mathlib.Core.Path.{_≡_, refl, sym, ap, _∙_}
+use mathlib.Core.Bool.{Bool, true, false, cond}
+use mathlib.Core.List.{List, _++_}
+use borrow.Author.Tests.{eqb-false, ltb-true, ltb-false, le-ltb}
+use lib.Dec.{eqb, ltb}
+use lib.ListN.{length, take, drop}
+use lib.Seq.{take-append-seam}
+use Rattle.word.specs.Word.{Bytes}
+use Rattle.floor.specs.declared.Look.{Look}
+use Rattle.floor.specs.declared.Look.the-variants.{Inside, Refused}
+use Rattle.floor.specs.Stored.{Floor, Question, floorOf, questionOf}
+use Rattle.floor.specs.Look.{lookOf}
+use Rattle.steps.specs.Steps.{seedNode}
+use Rattle.steps.proofs.World.{lawful}
+use Rattle.judge.proofs.Looking.{Looked, inside-tells}
+use Rattle.search.specs.declared.state.Task.{Task}
+use Rattle.search.specs.declared.state.Finish.{Finish}
+use Rattle.search.specs.declared.state.Finish.the-variants.{Arrived, Emptied, Filled, Stopped}
+use Rattle.search.specs.declared.state.Outcome.the-variants.{Ends}
+use Rattle.search.specs.declared.Answer.the-variants.{Found, NoPlaces, Short}
+use Rattle.search.specs.Layout.{Work, Room, placesIn}
+use Rattle.search.specs.Search.{Ending, searchedFrom}
+use Rattle.search.specs.Whole.{Told, toldOf, Searched, searchedOf, ifInside, written, routeBytes, straightBytes, finished, told, withWork, routed, betweenOf, searchOf}
+use Rattle.search.proofs.Kept.{Arrives, Finishes}
+use Rattle.search.proofs.Begun.{sound-searched}
+use Rattle.search.proofs.Found.{route-long, straight-long}
+
+-- ---- what is written
+
+short-written : (bytes : List ℕ) (most : ℕ) → length bytes ≤ 32 * (most + 1) → (counted : ℕ) (out : List ℕ) (steps : ℕ) → 32 * (most + 1) ≤ length out → written bytes counted out .answer ≡ Short steps → ⊥
+unfolding written
+short-written bytes most few counted out steps room = go (ltb (length out) (length bytes)) refl
+  where
+    go : (b : Bool) → ltb (length out) (length bytes) ≡ b → cond {A = Told} b (toldOf (Short counted) out) (toldOf (Found counted (length bytes)) (bytes ++ drop (length bytes) out)) .answer ≡ Short steps → ⊥
+    go true l e = let h = ltb-true (length out) (length bytes) l in omega arith
+    go false l e = let z : _≡_ {A = ℕ} 0 1 = cc in omega arith
+
+-- ---- what is found
+
+module _ (s : ℕ) (vs ps question : List ℕ) (some : 0 < s) (few : s ≤ 16) (bytes : Bytes ps) (from to : ℕ) (looked : Looked s vs ps question from to) (w : Work) (budget : ℕ) (out : List ℕ) (wide : 32 * (placesIn w + 1) ≤ length out) where
+  abbrev f : Floor
+  f = floorOf s vs ps
+
+  abbrev q : Question
+  q = questionOf question
+
+  abbrev task : Task
+  task = record { slots = s; goal = q .goal; polygon = to; places = placesIn w }
+
+  abbrev end : Ending
+  end = searchedFrom f task (q .start) from budget w
+
+  module _ (places : eqb (placesIn w) 0 ≡ false) where
+    room : Room (placesIn w) w
+    unfolding placesIn
+    room = record { floats-room = omega arith; words-room = omega arith; queue-room = omega arith; few = omega arith }
+
+    at-least-one : 1 ≤ placesIn w
+    at-least-one = let no-zero = eqb-false (placesIn w) 0 places in omega arith
+
+    sound : Finishes vs ps task (seedNode (q .start) from) some few (looked .accepted) end
+    sound = sound-searched vs ps task some few (looked .accepted) (looked .least) (q .start) from (looked .from-listed) w room at-least-one budget
+
+    by-finish : (finish : Finish) → Arrives vs ps task (seedNode (q .start) from) some few (looked .accepted) (end .state) (Ends finish) → (counted steps : ℕ)
+        → finished (end .state .work) (q .start) from (q .goal) finish counted out .answer ≡ Short steps → ⊥
+    by-finish (Arrived i) at counted steps e =
+        let long = route-long vs ps task q refl from (end .state) (sound .sound) (lawful s vs ps bytes q from to) i (at .0) in
+        let h = sound .sound .held i (at .0) .depth-few in
+        short-written (routeBytes (end .state .work) (q .start) from (q .goal) i) (placesIn w) (omega (arith, long, h, at .0, sound .sound .taken-in)) counted out steps wide e
+    by-finish Emptied at counted steps e = let z : _≡_ {A = ℕ} 0 1 = cc in omega arith
+    by-finish Filled at counted steps e = let z : _≡_ {A = ℕ} 0 1 = cc in omega arith
+    by-finish Stopped at counted steps e = let z : _≡_ {A = ℕ} 0 1 = cc in omega arith
+
+    routed-wide : (steps : ℕ) → routed f task (q .start) from budget w out .answer ≡ Short steps → ⊥
+    unfolding routed told
+    routed-wide steps = go (eqb from to)
+      where
+        straight : Told
+        straight = written (straightBytes (q .start) from (q .goal)) 0 out
+
+        around : Told
+        around = finished (end .state .work) (q .start) from (q .goal) (end .finish) (end .state .counts .pops) out
+
+        go : (b : Bool) → cond {A = Searched} b (withWork w straight) (withWork (end .state .work) around) .answer ≡ Short steps → ⊥
+        go true e = short-written (straightBytes (q .start) from (q .goal)) (placesIn w) (omega (arith, straight-long vs ps task q refl from, at-least-one)) 0 out steps wide e
+        go false e = by-finish (end .finish) (sound .arrives) (end .state .counts .pops) steps e
+
+  between-wide : (steps : ℕ) → betweenOf s f q from to budget w out .answer ≡ Short steps → ⊥
+  unfolding betweenOf
+  between-wide steps = go (eqb (placesIn w) 0) refl
+    where
+      go : (b : Bool) → eqb (placesIn w) 0 ≡ b → cond {A = Searched} b (searchedOf NoPlaces w out) (routed f task (q .start) from budget w out) .answer ≡ Short steps → ⊥
+      go true same e = let z : _≡_ {A = ℕ} 0 1 = cc in omega arith
+      go false same e = routed-wide same steps e
+
+-- "13: output too short": with 32 × (N + 1) bytes of room it never comes.
+pub wide-is-never-short : (s : ℕ) (vs ps question : List ℕ) → 0 < s → s ≤ 16 → Bytes ps → (budget : ℕ) (w : Work) (out : List ℕ) → 32 * (placesIn w + 1) ≤ length out → (steps : ℕ) → searchOf s vs ps question budget w out .answer ≡ Short steps → ⊥
+unfolding searchOf
+wide-is-never-short s vs ps question some few bytes budget w out wide steps = go (lookOf s vs ps question) refl
+  where
+    go : (look : Look) → lookOf s vs ps question ≡ look → ifInside look w out (λ p goal. betweenOf s (floorOf s vs ps) (questionOf question) p goal budget w out) .answer ≡ Short steps → ⊥
+    go (Inside from to) l e = between-wide s vs ps question some few bytes from to (inside-tells s vs ps question from to l) w budget out wide steps e
+    go (Refused r) l e = let z : _≡_ {A = ℕ} 0 1 = cc in omega arith
+
+-- ---- a larger output
+
+-- the same answer, the same buffers and the same bytes in front
+pub record SameRoute (n : ℕ) (a b : Searched) : Type 0 where
+  pub answer-same : b .answer ≡ a .answer
+  pub work-same : b .work ≡ a .work
+  pub bytes-same : take n (b .out) ≡ take n (a .out)
+
+written-wider : (bytes : List ℕ) (counted : ℕ) (out wider : List ℕ) → length out ≤ length wider → (steps n : ℕ) → written bytes counted out .answer ≡ Found steps n
+    → (written bytes counted wider .answer ≡ written bytes counted out .answer) × (take n (written bytes counted wider .out) ≡ take n (written bytes counted out .out))
+unfolding written
+written-wider bytes counted out wider l steps n = go (ltb (length out) (length bytes)) refl
+  where
+    go : (b : Bool) → ltb (length out) (length bytes) ≡ b → cond {A = Told} b (toldOf (Short counted) out) (toldOf (Found counted (length bytes)) (bytes ++ drop (length bytes) out)) .answer ≡ Found steps n
+        → (cond {A = Told} (ltb (length wider) (length bytes)) (toldOf (Short counted) wider) (toldOf (Found counted (length bytes)) (bytes ++ drop (length bytes) wider)) .answer
+        ≡ cond {A = Told} b (toldOf (Short counted) out) (toldOf (Found counted (length bytes)) (bytes ++ drop (length bytes) out)) .answer)
+        × (take n (cond {A = Told} (ltb (length wider) (length bytes)) (toldOf (Short counted) wider) (toldOf (Found counted (length bytes)) (bytes ++ drop (length bytes) wider)) .out)
+        ≡ take n (cond {A = Told} b (toldOf (Short counted) out) (toldOf (Found counted (length bytes)) (bytes ++ drop (length bytes) out)) .out))
+    go true h e = let z : _≡_ {A = ℕ} 0 1 = cc in absurd (omega arith)
+    go false h e =
+        let k : length bytes ≡ n = cc in
+        let enough = le-ltb (length wider) (length bytes) (omega (arith, ltb-false (length out) (length bytes) h)) in
+        let front : (l : List ℕ) → take n (bytes ++ l) ≡ bytes = λ l. ap (λ (m : ℕ). take m (bytes ++ l)) (sym k) ∙ take-append-seam bytes l in
+        rw enough (refl, front (drop (length bytes) wider) ∙ sym (front (drop (length bytes) out)))
+
+module _ (s : ℕ) (f : Floor) (q : Question) (from to : ℕ) (budget : ℕ) (w : Work) (out wider : List ℕ) (l : length out ≤ length wider) (steps n : ℕ) where
+  abbrev asked : Task
+  asked = record { slots = s; goal = q .goal; polygon = to; places = placesIn w }
+
+  abbrev ended : Ending
+  ended = searchedFrom f asked (q .start) from budget w
+
+  same-route : (work : Work) (bytes : List ℕ) (counted : ℕ) → written bytes counted out .answer ≡ Found steps n → SameRoute n (withWork work (written bytes counted out)) (withWork work (written bytes counted wider))
+  same-route work bytes counted e =
+      let h = written-wider bytes counted out wider l steps n e in
+      record { answer-same = h .0; work-same = refl; bytes-same = h .1 }
+
+  finished-wider : (finish : Finish) (counted : ℕ) → finished (ended .state .work) (q .start) from (q .goal) finish counted out .answer ≡ Found steps n
+      → SameRoute n (withWork (ended .state .work) (finished (ended .state .work) (q .start) from (q .goal) finish counted out)) (withWork (ended .state .work) (finished (ended .state .work) (q .start) from (q .goal) finish counted wider))
+  finished-wider (Arrived i) counted e = same-route (ended .state .work) (routeBytes (ended .state .work) (q .start) from (q .goal) i) counted e
+  finished-wider Emptied counted e = let z : _≡_ {A = ℕ} 0 1 = cc in absurd (omega arith)
+  finished-wider Filled counted e = let z : _≡_ {A = ℕ} 0 1 = cc in absurd (omega arith)
+  finished-wider Stopped counted e = let z : _≡_ {A = ℕ} 0 1 = cc in absurd (omega arith)
+
+  between-wider : betweenOf s f q from to budget w out .answer ≡ Found steps n → SameRoute n (betweenOf s f q from to budget w out) (betweenOf s f q from to budget w wider)
+  unfolding betweenOf routed told
+  between-wider = go (eqb (placesIn w) 0) (eqb from to)
+    where
+      straight : List ℕ → Searched
+      straight o = withWork w (written (straightBytes (q .start) from (q .goal)) 0 o)
+
+      around : List ℕ → Searched
+      around o = withWork (ended .state .work) (finished (ended .state .work) (q .start) from (q .goal) (ended .finish) (ended .state .counts .pops) o)
+
+      go : (a b : Bool) → cond {A = Searched} a (searchedOf NoPlaces w out) (cond {A = Searched} b (straight out) (around out)) .answer ≡ Found steps n
+          → SameRoute n (cond {A = Searched} a (searchedOf NoPlaces w out) (cond {A = Searched} b (straight out) (around out))) (cond {A = Searched} a (searchedOf NoPlaces w wider) (cond {A = Searched} b (straight wider) (around wider)))
+      go true b e = let z : _≡_ {A = ℕ} 0 1 = cc in absurd (omega arith)
+      go false true e = same-route w (straightBytes (q .start) from (q .goal)) 0 e
+      go false false e = finished-wider (ended .finish) (ended .state .counts .pops) e
+
+-- Where a search answers 0, every larger output gets the answer 0 too, with the same counted steps, the same buffers and the same bytes.
+pub larger-output-same : (s : ℕ) (vs ps question : List ℕ) (budget : ℕ) (w : Work) (out wider : List ℕ) → length out ≤ length wider → (steps n : ℕ) → searchOf s vs ps question budget w out .answer ≡ Found steps n
+    → SameRoute n (searchOf s vs ps question budget w out) (searchOf s vs ps question budget w wider)
+unfolding searchOf
+larger-output-same s vs ps question budget w out wider l steps n = go (lookOf s vs ps question)
+  where
+    go : (look : Look) → ifInside look w out (λ p goal. betweenOf s (floorOf s vs ps) (questionOf question) p goal budget w out) .answer ≡ Found steps n
+        → SameRoute n (ifInside look w out (λ p goal. betweenOf s (floorOf s vs ps) (questionOf question) p goal budget w out)) (ifInside look w wider (λ p goal. betweenOf s (floorOf s vs ps) (questionOf question) p goal budget w wider))
+    go (Inside from to) e = between-wider s (floorOf s vs ps) (questionOf question) from to budget w out wider l steps n e
+    go (Refused r) e = let z : _≡_ {A = ℕ} 0 1 = cc in absurd (omega arith)

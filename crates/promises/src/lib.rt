@@ -1,0 +1,1 @@
+// What holds of search and judge together stands in proofs/.

@@ -1,0 +1,106 @@
+// Finds a route. It reads the floor from the files floor.vtx and floor.ply and the question from standard input, and writes
+// the route's bytes to standard output. On another number than 0 nothing goes there, and one plain line goes to standard
+// error, as "8: the start is in no polygon" or "5 at record 1: a polygon's corners are wrong".
+
+ghost use mathlib.Core.Path.{_≡_};
+ghost use lib.ListN.{length};
+use floor::Refusal;
+use libc::STDERR_FILENO;
+use libc::STDOUT_FILENO;
+use says::At;
+use search::Answer;
+
+fn main() {
+    let mut vertices = console::room_for_vertices();
+    let mut polygons = console::room_for_polygons();
+    let mut question = console::room_for_question();
+    let mut out = room_for_output();
+    find(&mut vertices, &mut polygons, &mut question, &mut out);
+}
+
+// Room for 2,047 nodes: 11 floats, 7 words and 2 words of the queue each. Only the length is said, which lending an array as a
+// slice needs.
+fn room_for_floats() -> [f32; 22517]
+    ensures { λ r. ⌜ 22517 ≡ length r ⌝ }
+{
+    [0.0; 22517]
+}
+
+fn room_for_words() -> [u32; 14329]
+    ensures { λ r. ⌜ 14329 ≡ length r ⌝ }
+{
+    [0; 14329]
+}
+
+fn room_for_queue() -> [u32; 4094]
+    ensures { λ r. ⌜ 4094 ≡ length r ⌝ }
+{
+    [0; 4094]
+}
+
+fn room_for_output() -> [u8; 65536]
+    ensures { λ r. ⌜ 65536 ≡ length r ⌝ }
+{
+    [0; 65536]
+}
+
+fn find(vertices: &mut [u8], polygons: &mut [u8], question: &mut [u8], out: &mut [u8]) {
+    let v = console::read_file(b"floor.vtx", vertices);
+    let p = console::read_file(b"floor.ply", polygons);
+    let q = console::read_input(question);
+    let answer = search_files(&vertices[..v], &polygons[..p], &question[..q], out);
+    match answer {
+        Answer::Found { steps: _, bytes } => write_route(out, bytes),
+        Answer::NotFound { steps: _ } => complain(answer.number()),
+        Answer::Refused(refusal) => complain_of(refusal),
+        Answer::NoPlaces => complain(answer.number()),
+        Answer::Full { steps: _ } => complain(answer.number()),
+        Answer::Spent { steps: _ } => complain(answer.number()),
+        Answer::Short { steps: _ } => complain(answer.number()),
+    }
+}
+
+// A route that was found fits the output: that is a law (`found-fits`), and the test here never fails.
+fn write_route(out: &[u8], bytes: usize) {
+    if bytes <= out.len() {
+        io::write_all(STDOUT_FILENO, &out[..bytes]);
+    }
+}
+
+// The search with the room of this program.
+fn search_files(vertices: &[u8], polygons: &[u8], question: &[u8], out: &mut [u8]) -> Answer {
+    let mut floats = room_for_floats();
+    let mut words = room_for_words();
+    let mut queue = room_for_queue();
+    search::search_default(
+        vertices,
+        polygons,
+        question,
+        &mut floats,
+        &mut words,
+        &mut queue,
+        out,
+    )
+}
+
+// A line on standard error: the number and the words.
+fn complain(number: u32) {
+    io::print_decimal(STDERR_FILENO, number as u64);
+    console::write_words(STDERR_FILENO, b": ", number);
+}
+
+// The same with the record at fault, where there is one.
+fn complain_of(refusal: Refusal) {
+    let number = refusal.number();
+    io::print_decimal(STDERR_FILENO, number as u64);
+    match says::refusal_at(refusal) {
+        At::Record(record) => complain_at(record),
+        At::Nowhere => (),
+    }
+    console::write_words(STDERR_FILENO, b": ", number);
+}
+
+fn complain_at(record: usize) {
+    io::write_all(STDERR_FILENO, b" at record ");
+    io::print_decimal(STDERR_FILENO, record as u64);
+}

@@ -1,0 +1,105 @@
+-- A route that a search finds is a true route: the chain of parents is a trail into the goal polygon, and its bytes are the trail's. Rests on specs/Sound and on
+-- route/specs/World. Assumes nothing.
+use Prim.Native.Nat.{ℕ, zero, suc, _+_, _*_, _<_}
+use native.Mathlib.Decide.{decLt}
+use native.Mathlib.Numerals.{add-one}
+use native.Mathlib.Omega.{arith}
+use mathlib.Core.Path.{_≡_, refl, _∙_, subst}
+use mathlib.Core.Bool.{true}
+use mathlib.Core.List.{List, _++_}
+use borrow.Author.Tests.{eq-eqb}
+use lib.ListN.{length, length-append}
+use Rattle.floor.specs.Stored.{Floor, Question, floorOf}
+use Rattle.route.specs.Record.{seedBytes, stepBytes}
+use Rattle.route.specs.World.{World, Lawful, Trail, seeded, stepped, TrueRoute}
+use Rattle.route.proofs.Bytes.{seed-is-32, end-is-32}
+use Rattle.route.proofs.Trails.{trail-long}
+use Rattle.steps.specs.declared.Node.{Node}
+use Rattle.steps.specs.Steps.{seedNode}
+use Rattle.steps.specs.World.{endingOf, isInGoal, worldIn}
+use Rattle.search.specs.declared.state.Task.{Task}
+use Rattle.search.specs.Layout.{Work, nodeAt, stepAt, parentAt, depthAt}
+use Rattle.search.specs.Search.{State}
+use Rattle.search.specs.Sound.{Entered, Sound}
+use Rattle.search.specs.Whole.{chainBytes, endAfter, routeBytes, straightBytes}
+
+module _ (vs ps : List ℕ) (t : Task) (q : Question) (goal : q .goal ≡ t .goal) (p : ℕ) where
+  abbrev f : Floor
+  f = floorOf (t .slots) vs ps
+
+  abbrev world : World Node
+  world = worldIn f q p (t .polygon)
+
+  module _ (s : State) (h : Sound vs ps t (seedNode (q .start) p) s) where
+    abbrev w : Work
+    w = s .work
+
+    abbrev first : List ℕ
+    first = seedBytes p (q .start)
+
+    -- ---- the chain of a place
+
+    chain-of-seed : Trail world (depthAt w 0) (nodeAt w 0) (chainBytes w first (depthAt w 0) 0)
+    unfolding chainBytes worldIn
+    chain-of-seed = rw (h .seed-node, h .seed-depth) seeded
+
+    chain-longer : (i : ℕ) → Entered f t w i → chainBytes w first (depthAt w i) i ≡ chainBytes w first (depthAt w (parentAt w i)) (parentAt w i) ++ stepBytes (stepAt w i)
+    unfolding chainBytes
+    chain-longer i e = rw (e .deeper, add-one)
+
+    chain-of-step : (i : ℕ) → Entered f t w i → Trail world (depthAt w (parentAt w i)) (nodeAt w (parentAt w i)) (chainBytes w first (depthAt w (parentAt w i)) (parentAt w i))
+        → Trail world (depthAt w i) (nodeAt w i) (chainBytes w first (depthAt w i) i)
+    unfolding worldIn
+    chain-of-step i e trail = rw (chain-longer i e, e .deeper, e .entered) (stepped trail (e .permitted))
+
+    chain-below : (m i : ℕ) → i < m → i < s .counts .taken → Trail world (depthAt w i) (nodeAt w i) (chainBytes w first (depthAt w i) i)
+    chain-below zero i b l = absurd (omega arith)
+    chain-below (suc m) i b l = go (decLt 0 i) (chain-below m)
+      where
+        go : Dec (0 < i) → ((j : ℕ) → j < m → j < s .counts .taken → Trail world (depthAt w j) (nodeAt w j) (chainBytes w first (depthAt w j) j)) → Trail world (depthAt w i) (nodeAt w i) (chainBytes w first (depthAt w i) i)
+        go (yes z) lower =
+            let e = h .entered i z l in
+            chain-of-step i e (lower (parentAt w i) (omega (arith, e .lower, b)) (omega (arith, e .lower, l)))
+        go (no z) lower =
+            let zero-is : 0 ≡ i = omega arith in
+            subst (λ (j : ℕ). Trail world (depthAt w j) (nodeAt w j) (chainBytes w first (depthAt w j) j)) zero-is chain-of-seed
+
+    pub chain-is-trail : (i : ℕ) → i < s .counts .taken → Trail world (depthAt w i) (nodeAt w i) (chainBytes w first (depthAt w i) i)
+    chain-is-trail i l = chain-below (i + 1) i (omega arith) l
+
+    -- ---- a place in the goal polygon
+
+    pub route-is-true : (i : ℕ) → i < s .counts .taken → isInGoal (t .polygon) (nodeAt w i) ≡ true → TrueRoute world (routeBytes w (q .start) p (t .goal) i)
+    unfolding routeBytes endAfter worldIn
+    route-is-true i l arrived = record {
+      steps = depthAt w i;
+      few = omega (arith, h .held i l .depth-few, l, h .taken-in, h .fit .room .few);
+      last = nodeAt w i;
+      bytes = chainBytes w first (depthAt w i) i;
+      trail = chain-is-trail i l;
+      arrived = arrived;
+      whole = rw goal refl;
+    }
+
+    -- a record for the seed, one for each step and one for the end
+    pub route-long : Lawful world → (i : ℕ) → i < s .counts .taken → length (routeBytes w (q .start) p (t .goal) i) ≡ 32 * (depthAt w i + 2)
+    unfolding routeBytes endAfter
+    route-long lawful i l = length-append (chainBytes w first (depthAt w i) i) _ ∙ omega (arith, trail-long lawful (chain-is-trail i l), end-is-32 (endingOf (t .goal) (nodeAt w i) .points) (t .goal) (endingOf (t .goal) (nodeAt w i) .length))
+
+  -- ---- start and goal in one polygon
+
+  pub straight-long : length (straightBytes (q .start) p (t .goal)) ≡ 64
+  unfolding straightBytes endAfter
+  straight-long = length-append (seedBytes p (q .start)) _ ∙ omega (arith, seed-is-32 p (q .start), end-is-32 (endingOf (t .goal) (seedNode (q .start) p) .points) (t .goal) (endingOf (t .goal) (seedNode (q .start) p) .length))
+
+  pub straight-is-true : p ≡ t .polygon → TrueRoute world (straightBytes (q .start) p (t .goal))
+  unfolding straightBytes endAfter worldIn isInGoal seedNode
+  straight-is-true e = record {
+    steps = 0;
+    few = omega arith;
+    last = seedNode (q .start) p;
+    bytes = seedBytes p (q .start);
+    trail = seeded;
+    arrived = eq-eqb p (t .polygon) e;
+    whole = rw goal refl;
+  }

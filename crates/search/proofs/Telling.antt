@@ -1,0 +1,52 @@
+-- From a sound state every place that is taken can be told: the rows of its chain lie in the lent buffers. Rests on specs/Sound and specs/Writing. Assumes nothing.
+use Prim.Native.Nat.{ℕ, zero, suc, _+_, _≤_, _<_}
+use native.Mathlib.Decide.{decLt}
+use native.Mathlib.Numerals.{add-one}
+use native.Mathlib.Omega.{arith}
+use mathlib.Core.Path.{_≡_, subst}
+use mathlib.Core.List.{List}
+use Rattle.floor.specs.Stored.{floorOf}
+use Rattle.floor.specs.Accepted.{Accepted}
+use Rattle.steps.specs.declared.Node.{Node}
+use Rattle.search.specs.declared.state.Task.{Task}
+use Rattle.search.specs.declared.state.Finish.{Finish}
+use Rattle.search.specs.declared.state.Finish.the-variants.{Arrived, Emptied, Filled, Stopped}
+use Rattle.search.specs.declared.state.Outcome.the-variants.{Ends}
+use Rattle.search.specs.Layout.{Work, depthAt, parentAt}
+use Rattle.search.specs.Search.{State}
+use Rattle.search.specs.Sound.{Sound}
+use Rattle.search.specs.Writing.{Row, Lies, Tellable, Tells}
+use Rattle.search.proofs.Kept.{Arrives}
+
+module _ (vs ps : List ℕ) (t : Task) (seed : Node) (s : State) (h : Sound vs ps t seed s) where
+  abbrev w : Work
+  w = s .work
+
+  row-in : (i : ℕ) → i < s .counts .taken → Row (w .floats) (w .words) i
+  row-in i l = record { in-floats = omega (arith, h .fit .room .floats-room, l, h .taken-in); in-words = omega (arith, h .fit .room .words-room, l, h .taken-in) }
+
+  lies-below : (m i : ℕ) → i < m → i < s .counts .taken → Lies (w .floats) (w .words) (depthAt w i) i
+  lies-below zero i b l = absurd (omega arith)
+  lies-below (suc m) i b l = go (decLt 0 i) (lies-below m)
+    where
+      go : Dec (0 < i) → ((j : ℕ) → j < m → j < s .counts .taken → Lies (w .floats) (w .words) (depthAt w j) j) → Lies (w .floats) (w .words) (depthAt w i) i
+      go (yes z) lower =
+          let e = h .entered i z l in
+          rw (e .deeper, add-one) (row-in i l, lower (parentAt w i) (omega (arith, e .lower, b)) (omega (arith, e .lower, l)))
+      go (no z) lower =
+          let zero-is : 0 ≡ i = omega arith in
+          subst (λ (j : ℕ). Lies (w .floats) (w .words) (depthAt w j) j) zero-is (rw (h .seed-depth) tt)
+
+  pub place-tellable : (i : ℕ) → i < s .counts .taken → Tellable (w .floats) (w .words) i
+  place-tellable i l = record {
+    row = row-in i l;
+    lies = lies-below (i + 1) i (omega arith) l;
+    points-few = omega (arith, h .held i l .points-few, h .held i l .depth-few, l, h .taken-in, h .fit .room .few);
+  }
+
+  module _ (some : 0 < t .slots) (few : t .slots ≤ 16) (accepted : Accepted (floorOf (t .slots) vs ps)) where
+    pub finish-tells : (finish : Finish) → Arrives vs ps t seed some few accepted s (Ends finish) → Tells (w .floats) (w .words) finish
+    finish-tells (Arrived i) at = place-tellable i (at .0)
+    finish-tells Emptied at = tt
+    finish-tells Filled at = tt
+    finish-tells Stopped at = tt

@@ -1,0 +1,251 @@
+// The search: nodes in lent buffers, the queue over them, the pop loop, and the route that is written.
+
+ghost use mathlib.Core.Path.{_≡_};
+ghost use Prim.Native.Nat.{_+_, _*_, _/_, _≤_, _<_, min};
+ghost use lib.ListN.{length};
+ghost use Rattle.floor.specs.Stored.{floorOf, questionOf};
+ghost use Rattle.search.specs.Layout.{workOf, placesIn, Room};
+ghost use Rattle.search.specs.Answers.{answerNumber};
+ghost use Rattle.search.specs.Whole.{searchedOf, routed, betweenOf, askedOf, searchOf};
+ghost use Rattle.search.specs.Sound.{Ground};
+use crate::machine::search_from;
+use crate::state::Task;
+use crate::writing::tell;
+use crate::writing::write_straight;
+use floor::FloorLook;
+use floor::Look;
+use floor::Refusal;
+use helpers::Point;
+
+mod machine;
+mod making;
+mod places;
+pub mod state;
+mod writing;
+
+// What a search answers. Each but Refused and NoPlaces has the counted steps, which are 0 for those two.
+pub enum Answer {
+    // 0: the route stands in the first so many bytes of the output.
+    Found { steps: usize, bytes: usize },
+    // 1: no route.
+    NotFound { steps: usize },
+    // 2 to 9: the floor or the question was refused.
+    Refused(Refusal),
+    // 10: the lent work buffers hold no node.
+    NoPlaces,
+    // 11: a node needed a place and none was left.
+    Full { steps: usize },
+    // 12: the budget was spent.
+    Spent { steps: usize },
+    // 13: the route is longer than the output.
+    Short { steps: usize },
+}
+
+// The most places that are used, and the steps of a search without a budget.
+pub const MOST_PLACES: usize = 4096;
+
+pub const DEFAULT_BUDGET: usize = 4096;
+
+fn lesser(a: usize, b: usize) -> usize
+    ensures { λ r. ⌜ r ≡ min a b ⌝ }
+{
+    if a <= b {
+        return a;
+    }
+    b
+}
+
+// How many nodes the lent work buffers hold.
+pub fn places_in(floats: &[f32], words: &[u32], queue: &[u32]) -> usize
+    ensures { λ r. ⌜ r ≡ placesIn (workOf (now (floats .entry)) (now (words .entry)) (now (queue .entry))) ⌝ }
+{
+    let rows = lesser(floats.len() / places::FLOATS, words.len() / places::WORDS);
+    lesser(lesser(rows, queue.len() / 2), MOST_PLACES)
+}
+
+// From a point in polygon p to the task's goal.
+fn route_from(
+    vertices: &[u8],
+    polygons: &[u8],
+    marks: &[u8; 1024],
+    task: Task,
+    start: Point,
+    p: usize,
+    budget: usize,
+    floats: &mut [f32],
+    words: &mut [u32],
+    tree: &mut [u32],
+    out: &mut [u8],
+) -> Answer
+    requires { ⌜ Ground (task .slots) (now vertices) (now polygons) (now marks) ⌝ }
+    requires { ⌜ Room (task .places) (workOf (now floats) (now words) (now tree)) × (1 ≤ task .places) × (p < length (now polygons) / (task .slots * 8)) ⌝ }
+    ensures { λ r. ⌜ searchedOf r (workOf (now (floats .exit)) (now (words .exit)) (now (tree .exit))) (now (out .exit)) ≡ routed (floorOf (task .slots) (now (vertices .entry)) (now (polygons .entry))) task start p budget (workOf (now (floats .entry)) (now (words .entry)) (now (tree .entry))) (now (out .entry)) ⌝ }
+{
+    if p == task.polygon {
+        return write_straight(task, start, p, out);
+    }
+    let ended = search_from(
+        vertices,
+        polygons,
+        marks,
+        task,
+        start,
+        p,
+        budget,
+        floats,
+        words,
+        tree,
+    );
+    tell(task, start, p, ended, floats, words, out)
+}
+
+// From polygon p to polygon q.
+fn route_between(
+    vertices: &[u8],
+    polygons: &[u8],
+    marks: &[u8; 1024],
+    question: &[u8],
+    p: usize,
+    q: usize,
+    budget: usize,
+    floats: &mut [f32],
+    words: &mut [u32],
+    tree: &mut [u32],
+    out: &mut [u8],
+) -> Answer
+    requires { ⌜ Ground 8 (now vertices) (now polygons) (now marks) ⌝ }
+    requires { ⌜ (length (now question) ≡ 16) × (p < length (now polygons) / 64) ⌝ }
+    ensures { λ r. ⌜ searchedOf r (workOf (now (floats .exit)) (now (words .exit)) (now (tree .exit))) (now (out .exit)) ≡ betweenOf 8 (floorOf 8 (now (vertices .entry)) (now (polygons .entry))) (questionOf (now (question .entry))) p q budget (workOf (now (floats .entry)) (now (words .entry)) (now (tree .entry))) (now (out .entry)) ⌝ }
+{
+    let places = places_in(floats, words, tree);
+    if places == 0 {
+        return Answer::NoPlaces;
+    }
+    let start = floor::stored::question_start(question);
+    let goal = floor::stored::question_goal(question);
+    let task = Task {
+        slots: floor::SLOTS,
+        goal,
+        polygon: q,
+        places,
+    };
+    route_from(
+        vertices,
+        polygons,
+        marks,
+        task,
+        start,
+        p,
+        budget,
+        floats,
+        words,
+        tree,
+        out,
+    )
+}
+
+// One question of a floor that was accepted, whose turn vertices are known.
+pub fn search_on(
+    vertices: &[u8],
+    polygons: &[u8],
+    marks: &[u8; 1024],
+    question: &[u8],
+    budget: usize,
+    floats: &mut [f32],
+    words: &mut [u32],
+    tree: &mut [u32],
+    out: &mut [u8],
+) -> Answer
+    requires { ⌜ Ground 8 (now vertices) (now polygons) (now marks) ⌝ }
+    ensures { λ r. ⌜ searchedOf r (workOf (now (floats .exit)) (now (words .exit)) (now (tree .exit))) (now (out .exit)) ≡ askedOf 8 (now (vertices .entry)) (now (polygons .entry)) (now (question .entry)) budget (workOf (now (floats .entry)) (now (words .entry)) (now (tree .entry))) (now (out .entry)) ⌝ }
+{
+    match floor::ask(vertices, polygons, question) {
+        Look::Inside(p, q) => route_between(
+            vertices,
+            polygons,
+            marks,
+            question,
+            p,
+            q,
+            budget,
+            floats,
+            words,
+            tree,
+            out,
+        ),
+        Look::Refused(refusal) => Answer::Refused(refusal),
+    }
+}
+
+// The search of document 01. Nothing is asked of the caller.
+pub fn search(
+    vertices: &[u8],
+    polygons: &[u8],
+    question: &[u8],
+    budget: usize,
+    floats: &mut [f32],
+    words: &mut [u32],
+    tree: &mut [u32],
+    out: &mut [u8],
+) -> Answer
+    ensures { λ r. ⌜ searchedOf r (workOf (now (floats .exit)) (now (words .exit)) (now (tree .exit))) (now (out .exit)) ≡ searchOf 8 (now (vertices .entry)) (now (polygons .entry)) (now (question .entry)) budget (workOf (now (floats .entry)) (now (words .entry)) (now (tree .entry))) (now (out .entry)) ⌝ }
+{
+    match floor::look_at_floor(vertices, polygons) {
+        FloorLook::Accepted => {
+            let marks = floor::turns::turn_vertices(vertices, polygons, floor::SLOTS);
+            search_on(
+                vertices,
+                polygons,
+                &marks,
+                question,
+                budget,
+                floats,
+                words,
+                tree,
+                out,
+            )
+        }
+        FloorLook::Faulty(refusal) => Answer::Refused(refusal),
+    }
+}
+
+// The search with the budget of document 01, 4,096 steps.
+pub fn search_default(
+    vertices: &[u8],
+    polygons: &[u8],
+    question: &[u8],
+    floats: &mut [f32],
+    words: &mut [u32],
+    tree: &mut [u32],
+    out: &mut [u8],
+) -> Answer
+    ensures { λ r. ⌜ searchedOf r (workOf (now (floats .exit)) (now (words .exit)) (now (tree .exit))) (now (out .exit)) ≡ searchOf 8 (now (vertices .entry)) (now (polygons .entry)) (now (question .entry)) 4096 (workOf (now (floats .entry)) (now (words .entry)) (now (tree .entry))) (now (out .entry)) ⌝ }
+{
+    search(
+        vertices,
+        polygons,
+        question,
+        DEFAULT_BUDGET,
+        floats,
+        words,
+        tree,
+        out,
+    )
+}
+
+impl Answer {
+    // The number in document 01's table.
+    pub fn number(self) -> u32
+        ensures { λ r. ⌜ r ≡ answerNumber self ⌝ }
+    {
+        match self {
+            Answer::Found { steps: _, bytes: _ } => 0,
+            Answer::NotFound { steps: _ } => 1,
+            Answer::Refused(refusal) => refusal.number(),
+            Answer::NoPlaces => 10,
+            Answer::Full { steps: _ } => 11,
+            Answer::Spent { steps: _ } => 12,
+            Answer::Short { steps: _ } => 13,
+        }
+    }
+}

@@ -1,0 +1,63 @@
+// What a search is asked, what it counts, and how its steps and it itself end. All by value.
+
+use helpers::Point;
+use steps::Node;
+
+// What is asked of a floor of so many slots a polygon: the goal, the polygon that it is in, and how many places there are
+// for nodes.
+pub struct Task {
+    pub slots: usize,
+    pub goal: Point,
+    pub polygon: usize,
+    pub places: usize,
+}
+
+// How many places are taken, how many roots have a distance on record, and how many steps were counted.
+pub struct Counts {
+    pub taken: usize,
+    pub records: usize,
+    pub pops: usize,
+}
+
+// Where steps are made from: a place, how many steps led to it, and its node.
+pub struct Origin {
+    pub place: usize,
+    pub depth: u32,
+    pub node: Node,
+}
+
+// The counters after nodes were made, and whether one found no place.
+pub struct Made {
+    pub counts: Counts,
+    pub full: bool,
+}
+
+// How a search ends.
+pub enum Finish {
+    // The node at this place is in the goal polygon.
+    Arrived(usize),
+    // The queue is empty.
+    Emptied,
+    // A node needs a place and none is left.
+    Filled,
+    // The queue is not empty and the budget is spent.
+    Stopped,
+}
+
+// What comes of a step.
+pub enum Outcome {
+    Goes,
+    Ends(Finish),
+}
+
+// The counters after a step, and what came of it.
+pub struct Stepped {
+    pub counts: Counts,
+    pub outcome: Outcome,
+}
+
+// The counters after the last step, and how the search ended.
+pub struct Ended {
+    pub counts: Counts,
+    pub finish: Finish,
+}
