@@ -1,11 +1,11 @@
 -- From a floor and a question to the search: each way through the code is the definition's, and what the search asks for is there. Assumes nothing.
-use Prim.Native.Nat.{ℕ, _+_, _*_, _/_, _≤_, _<_, _^_, min}
+use Prim.Native.Nat.{ℕ, _*_, _/_, _≤_, _<_}
 use native.Mathlib.Omega.{arith}
-use mathlib.Core.Path.{_≡_, refl, sym, ap, _∙_, subst}
+use mathlib.Core.Path.{_≡_, refl, sym, _∙_, subst}
 use mathlib.Core.Bool.{Bool, true, false, not, cond}
 use mathlib.Core.List.{List}
 use borrow.Author.Tests.{eq-eqb, ne-eqb, leb-false}
-use lib.Dec.{T, leb, eqb, lit<, lit≤}
+use lib.Dec.{leb}
 use lib.ListN.{length}
 use Rattle.helpers.specs.declared.point.Point.{Point}
 use Rattle.floor.specs.declared.Refusal.{Refusal}
@@ -26,8 +26,8 @@ use Rattle.search.specs.declared.state.Task.{Task}
 use Rattle.search.specs.declared.Answer.{Answer}
 use Rattle.search.specs.declared.Answer.the-variants.{NoPlaces}
 use Rattle.search.specs.Answers.{refused}
-use Rattle.search.specs.Layout.{Work, workOf, Room, placesIn}
-use Rattle.search.specs.Search.{State, Ending, searchedFrom}
+use Rattle.search.specs.Layout.{Work, Room, placesIn}
+use Rattle.search.specs.Search.{Ending, searchedFrom}
 use Rattle.search.specs.Sound.{Ground}
 use Rattle.search.specs.Whole.{Searched, searchedOf, straightBytes, written, told, routed, betweenOf, askedOf, searchOf}
 use Rattle.search.specs.Writing.{Tells}

@@ -1,9 +1,9 @@
 -- Making nodes leaves the lent buffers as long as they are, and no more records than places are taken. Assumes nothing.
-use Prim.Native.Nat.{ℕ, _+_, _*_, _≤_, _<_}
+use Prim.Native.Nat.{ℕ, _+_, _<_}
 use native.Mathlib.Omega.{arith}
 use mathlib.Core.Path.{_≡_, refl}
 use mathlib.Core.Bool.{Bool, true, false, cond, _||_}
-use mathlib.Core.List.{List, [], _∷_}
+use mathlib.Core.List.{List}
 use lib.Dec.{leb, ltb}
 use lib.Ieee.{Float, binary32, add, isNan}
 use lib.ListN.{length}
@@ -18,8 +18,8 @@ use Rattle.steps.specs.Steps.{enter, andThen}
 use Rattle.queue.proofs.Change.{placed-length}
 use Rattle.search.specs.declared.state.Task.{Task}
 use Rattle.search.specs.declared.state.Origin.{Origin}
-use Rattle.search.specs.Layout.{Room, fAt, recordFor, putRecord, putDistance, putQueued}
-use Rattle.search.specs.Search.{State, stateOf, Making, making, tookPlace, tookRecord, recorded, queued, isBeaten, kept, placed, taken, made, madeIf, madeAll}
+use Rattle.search.specs.Layout.{fAt, recordFor, putRecord, putDistance, putQueued}
+use Rattle.search.specs.Search.{State, stateOf, making, tookPlace, tookRecord, recorded, queued, isBeaten, kept, placed, taken, made, madeIf, madeAll}
 use Rattle.search.specs.Sound.{Fit}
 use Rattle.search.proofs.Rows.{put-floats-length, put-words-length, record-length, distance-length}
 

@@ -1,7 +1,7 @@
 -- What becomes of a node that was made: each way through the code is the definition's. Assumes nothing.
 use Prim.Native.Nat.{ℕ, _+_, _*_, _≤_, _<_}
 use mathlib.Core.Path.{_≡_, refl, _∙_}
-use mathlib.Core.Bool.{Bool, true, false, _||_, cond}
+use mathlib.Core.Bool.{true, false}
 use mathlib.Core.List.{List}
 use borrow.Author.Tests.{eq-eqb, lt-ltb, le-ltb, lt-leb, le-leb}
 use lib.Ieee.{Float, nan, inf, fin, up, down, binary32, add, lt, ne, isNan}
@@ -18,8 +18,8 @@ use Rattle.queue.specs.Words as tree
 use Rattle.search.specs.declared.state.Task.{Task}
 use Rattle.search.specs.declared.state.Counts.{Counts}
 use Rattle.search.specs.declared.state.Origin.{Origin}
-use Rattle.search.specs.Layout.{Work, workOf, recordFor, recordRoot, recordDistance, recordPut, distancePut, putFloats, putWords}
-use Rattle.search.specs.Search.{State, stateOf, Making, making, tookPlace, tookRecord, beatenIn, recorded, queued, kept, placed, taken, made}
+use Rattle.search.specs.Layout.{workOf, recordFor, recordRoot, recordDistance, recordPut, distancePut, putFloats, putWords}
+use Rattle.search.specs.Search.{State, stateOf, making, tookPlace, tookRecord, beatenIn, recorded, queued, kept, placed, taken, made}
 
 -- ---- NaN is what differs from itself
 

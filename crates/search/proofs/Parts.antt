@@ -1,10 +1,9 @@
 -- The part of an edge that is on: where it may be read, and which step leads over it. Assumes nothing.
-use Prim.Native.Nat.{ℕ, _*_, _/_, _≤_, _<_}
-use mathlib.Core.Path.{_≡_, refl, sym, ap, _∙_, subst}
-use mathlib.Core.Bool.{Bool, true, false, cond}
-use mathlib.Core.List.{List, []}
+use Prim.Native.Nat.{ℕ, _<_}
+use mathlib.Core.Path.{_≡_, sym, ap, _∙_}
+use mathlib.Core.Bool.{true, false, cond}
+use mathlib.Core.List.{List}
 use lib.Dec.{eqb}
-use lib.ListN.{length}
 use Rattle.walk.specs.declared.Part.{Part}
 use Rattle.walk.specs.Walk.{partAt}
 use Rattle.walk.specs.Turns.{isOverOf, edgeNumberOf}
@@ -17,7 +16,7 @@ use Rattle.steps.specs.declared.view.View.{View}
 use Rattle.steps.specs.declared.view.Permitted.{Permitted}
 use Rattle.steps.specs.declared.view.Permitted.the-variants.{Yes, No}
 use Rattle.steps.specs.declared.going.Going.{Going}
-use Rattle.steps.specs.Steps.{stepOf, stepsOver, stepsFrom, candidates, andThen}
+use Rattle.steps.specs.Steps.{stepOf, stepsOver, stepsFrom}
 use Rattle.steps.specs.View.{viewOf, stepBy}
 use Rattle.steps.specs.Going.{current, leftIn, beginGoing, nextGoing, Stands, Goes}
 use Rattle.steps.proofs.Rounds.{turning}

@@ -1,8 +1,8 @@
 -- A run, step by step: what was to be run is what is left to be run. Assumes nothing.
-use Prim.Native.Nat.{ℕ, zero, suc, _+_, _-_, _*_, _/_, _≤_, _<_}
+use Prim.Native.Nat.{ℕ, suc, _+_, _-_, _*_, _/_, _≤_, _<_}
 use native.Mathlib.Omega.{arith}
 use mathlib.Core.Path.{_≡_, refl, sym, ap, _∙_, subst}
-use mathlib.Core.Bool.{Bool, true, false, cond}
+use mathlib.Core.Bool.{true, false}
 use mathlib.Core.List.{List}
 use borrow.Author.Tests.{eq-eqb, ne-eqb}
 use lib.Dec.{eqb}
@@ -11,7 +11,6 @@ use Rattle.helpers.specs.declared.point.Point.{Point}
 use Rattle.floor.specs.Stored.{Floor, floorOf}
 use Rattle.steps.specs.declared.Node.{Node}
 use Rattle.steps.specs.Steps.{stepsFrom, seedNode}
-use Rattle.steps.specs.Going.{Stands}
 use Rattle.steps.proofs.Stands.{seed-stands}
 use Rattle.queue.specs.Queue.{none}
 use Rattle.search.specs.declared.state.Task.{Task}
@@ -20,7 +19,7 @@ use Rattle.search.specs.declared.state.Finish.{Finish}
 use Rattle.search.specs.declared.state.Finish.the-variants.{Emptied, Filled, Stopped}
 use Rattle.search.specs.declared.state.Outcome.{Outcome}
 use Rattle.search.specs.declared.state.Outcome.the-variants.{Goes, Ends}
-use Rattle.search.specs.Layout.{Work, workOf, Room, leastIn}
+use Rattle.search.specs.Layout.{Work, Room, leastIn}
 use Rattle.search.specs.Search.{State, stateOf, Making, Stepping, Ending, ending, madeAll, step, onwards, run, planted, begun, seedOrigin, searchedFrom}
 use Rattle.search.specs.Sound.{Ground, Fit, Sound, SoundFrom, Leaves}
 use Rattle.search.proofs.Kept.{sound-step}

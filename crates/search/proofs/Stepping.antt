@@ -1,14 +1,13 @@
 -- A step and a run: each way through the code is the definition's, and what it asks for is there. Assumes nothing.
-use Prim.Native.Nat.{ℕ, zero, suc, _+_, _-_, _*_, _≤_, _<_}
+use Prim.Native.Nat.{ℕ, _-_, _≤_, _<_}
 use native.Mathlib.Omega.{arith}
-use mathlib.Core.Path.{_≡_, refl, sym, ap, _∙_, subst}
-use mathlib.Core.Bool.{Bool, true, false, cond}
+use mathlib.Core.Path.{_≡_, sym, _∙_, subst}
+use mathlib.Core.Bool.{Bool, true, false}
 use mathlib.Core.List.{List}
 use borrow.Author.Tests.{eq-eqb, ne-eqb}
 use lib.Dec.{eqb}
 use lib.Ieee.{Float}
-use Rattle.floor.specs.Stored.{Floor, floorOf}
-use Rattle.floor.specs.Accepted.{Accepted}
+use Rattle.floor.specs.Stored.{Floor}
 use Rattle.steps.specs.declared.Node.{Node}
 use Rattle.steps.specs.Steps.{stepsFrom}
 use Rattle.steps.specs.World.{isInGoal}
@@ -16,14 +15,11 @@ use Rattle.queue.specs.Queue.{none, leastOf, NoNan, Tree}
 use Rattle.queue.specs.Words as tree
 use Rattle.search.specs.declared.state.Task.{Task}
 use Rattle.search.specs.declared.state.Counts.{Counts}
-use Rattle.search.specs.declared.state.Origin.{Origin}
-use Rattle.search.specs.declared.state.Finish.{Finish}
-use Rattle.search.specs.declared.state.Finish.the-variants.{Arrived, Emptied, Filled, Stopped}
-use Rattle.search.specs.declared.state.Outcome.{Outcome}
+use Rattle.search.specs.declared.state.Finish.the-variants.{Arrived, Emptied, Filled}
 use Rattle.search.specs.declared.state.Outcome.the-variants.{Goes, Ends}
-use Rattle.search.specs.Layout.{Work, workOf, nodeAt, depthAt, fAt, isQueued, leastIn}
-use Rattle.search.specs.Search.{State, stateOf, Making, making, Stepping, stepping, Ending, ending, counted, beatenIn, originAt, madeAll, visited, popped, step, run}
-use Rattle.search.specs.Sound.{Ground, Sound, SoundFrom, Leaves}
+use Rattle.search.specs.Layout.{workOf, nodeAt, depthAt, fAt, isQueued, leastIn}
+use Rattle.search.specs.Search.{State, stateOf, Making, Stepping, stepping, counted, beatenIn, originAt, madeAll, visited, popped, step}
+use Rattle.search.specs.Sound.{Ground, SoundFrom, Leaves}
 use Rattle.search.proofs.Kept.{popped-queued, popped-taken, sound-popped}
 
 -- ---- a node that was popped

@@ -1,7 +1,7 @@
 -- Where things lie in the lent buffers: the one file that knows. A place is a row of 11 floats, a row of 7 words, and two words of the queue. Beside a node, a row
 -- of floats holds one record of a root and its distance. Definitions only. Assumes nothing.
 use Prim.Native.Nat.{ℕ, suc, _+_, _*_, _/_, _≤_, min}
-use mathlib.Core.Bool.{Bool, true, false, cond}
+use mathlib.Core.Bool.{Bool, cond}
 use mathlib.Core.List.{List, [], _∷_}
 use lib.Dec.{eqb}
 use lib.ListN.{length, getD, set}

@@ -1,13 +1,12 @@
 -- Document 01, the search from end to end: the tests, the search, and the route's bytes. What comes back, and what each lent buffer holds then. Definitions only.
 -- Assumes nothing.
 use Prim.Native.Nat.{ℕ, zero, suc}
-use mathlib.Core.Bool.{Bool, cond}
-use mathlib.Core.List.{List, [], _++_}
+use mathlib.Core.Bool.{cond}
+use mathlib.Core.List.{List, _++_}
 use lib.Dec.{ltb, eqb}
 use lib.ListN.{length, drop}
 use Rattle.helpers.specs.declared.point.Point.{Point}
 use Rattle.floor.specs.Stored.{Floor, Question, floorOf, questionOf}
-use Rattle.floor.specs.declared.Refusal.{Refusal}
 use Rattle.floor.specs.declared.Look.{Look}
 use Rattle.floor.specs.declared.Look.the-variants.{Inside, Refused}
 use Rattle.floor.specs.Look.{lookOf, askOf}
@@ -22,7 +21,7 @@ use Rattle.search.specs.declared.Answer.{Answer}
 use Rattle.search.specs.declared.Answer.the-variants.{Found, NotFound, NoPlaces, Full, Spent, Short}
 use Rattle.search.specs.Answers.{refused}
 use Rattle.search.specs.Layout.{Work, placesIn, nodeAt, stepAt, parentAt, depthAt}
-use Rattle.search.specs.Search.{State, Ending, searchedFrom}
+use Rattle.search.specs.Search.{Ending, searchedFrom}
 
 -- the answer, the work buffers and the output
 pub record Searched : Type 0 where

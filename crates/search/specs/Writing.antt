@@ -5,7 +5,6 @@ use mathlib.Core.List.{List}
 use lib.Ieee.{Float}
 use lib.ListN.{length}
 use Rattle.route.specs.Record.{stepBytes, putRecord}
-use Rattle.steps.specs.declared.Node.{Node}
 use Rattle.search.specs.declared.state.Finish.{Finish}
 use Rattle.search.specs.declared.state.Finish.the-variants.{Arrived, Emptied, Filled, Stopped}
 use Rattle.search.specs.Layout.{nodeIn, stepIn, parentIn, depthIn}

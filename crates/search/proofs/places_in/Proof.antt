@@ -1,3 +1,4 @@
+-- `search::places_in` meets its contract. Assumes nothing.
 use borrow.Author.Needs.{needs}
 use Rattle.search.specs.Layout.{placesIn}
 use Rattle.search.proofs.places_in.Statement.{statement}

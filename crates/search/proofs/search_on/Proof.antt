@@ -1,55 +1,42 @@
+-- `search::search_on` meets its contract. Assumes nothing.
 use borrow.Author.Needs.{needs}
 use denote.Ref.{now}
 use Rattle.search.specs.Layout.{workOf}
 use Rattle.search.proofs.Doors.{start-listed, asks-inside, asks-refused}
 use Rattle.search.proofs.search_on.Statement.{statement}
 use Rattle.search.proofs.search_on.Tie as tie
-use Rattle.search.proofs.search_on.Reads as reads
-use Rattle.search.proofs.search_on.Lts as lts
-use Rattle.floor.proofs.ask.Reads as ask-reads
-use Rattle.search.proofs.route_between.Reads as route-between-reads
 
--- src/lib.rt:162:11
 ask-requires : tie.Need-ask-requires
 ask-requires c κs = search needs
 
--- src/lib.rt:163:22
 enum-known-p : tie.Need-enum-known-p
 enum-known-p c = search needs
 
--- src/lib.rt:163:31
 route-between-requires : tie.Need-route-between-requires
 route-between-requires c κs =
     let s = c .before .before .before .before .before .before .before .before .before .before .before .before .before .before .before in
     (s .pre, start-listed 8 (now (s .args .vertices)) (now (s .args .polygons)) (now (s .args .question)) (s .args .budget) (workOf (now (s .args .floats)) (now (s .args .words)) (now (s .args .tree))) (now (s .args .out)) (c .before .before .before .before .before .before .before .ask .ensures) (c .before .before .before .before .before .p .given .1))
 
--- src/lib.rt:176:23
 enum-known-refusal : tie.Need-enum-known-refusal
 enum-known-refusal c = search needs
 
--- src/lib.rt:148:1
 same-length : tie.Need-same-length
 same-length c = search needs
 
--- src/lib.rt:148:1
 same-length-2 : tie.Need-same-length-2
 same-length-2 c = search needs
 
--- src/lib.rt:148:1
 same-length-3 : tie.Need-same-length-3
 same-length-3 c = search needs
 
--- src/lib.rt:148:1
 same-length-4 : tie.Need-same-length-4
 same-length-4 c = search needs
 
--- src/lib.rt:148:1
 returns : tie.Need-returns
 returns c =
     let s = c .before .before .before .before .before .before .before .before .before .before .before .before .before .before .before .before .before .before .before .before .before .before .before .before in
     asks-inside 8 (now (s .args .vertices)) (now (s .args .polygons)) (now (s .args .question)) (s .args .budget) (workOf (now (s .args .floats)) (now (s .args .words)) (now (s .args .tree))) (now (s .args .out)) (c .before .before .before .before .before .before .before .before .before .before .before .before .before .before .before .before .ask .ensures) (c .before .before .before .before .before .before .before .before .before .before .before .before .before .before .p .given .1) (c .before .before .before .before .before .before .before .before .route-between .ensures)
 
--- src/lib.rt:148:1
 returns-2 : tie.Need-returns-2
 returns-2 c =
     let s = c .before .before .before .before .before .before .before .before .before .before .before in

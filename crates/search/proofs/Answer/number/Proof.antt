@@ -1,3 +1,4 @@
+-- `search::Answer::number` meets its contract. Assumes nothing.
 use borrow.Author.Needs.{needs}
 use Rattle.search.specs.Answers.{answerNumber}
 use Rattle.search.proofs.Answer.number.Statement.{statement}

@@ -1,3 +1,4 @@
+-- `search::machine::is_beaten` meets its contract. Assumes nothing.
 use borrow.Author.Needs.{needs}
 use borrow.Author.Tests.{le-ltb}
 use borrow.Author.Tests.{lt-ltb}

@@ -1,18 +1,14 @@
+-- `search::machine::run` meets its contract. Assumes nothing.
 use denote.Ref.{now}
 use native.Mathlib.Omega.{arith}
 use mathlib.Core.Path.{_∙_}
 use borrow.Author.Needs.{needs}
 use Rattle.search.specs.Layout.{workOf}
 use Rattle.search.specs.Search.{stateOf}
-use Rattle.search.proofs.Looping.{AsLong}
 use Rattle.search.proofs.Stepping.{least-is}
 use Rattle.search.proofs.Running.{Runs, runs-begin, runs-ends, runs-next, runs-empty, runs-out}
 use Rattle.search.proofs.machine.run.Statement.{statement}
 use Rattle.search.proofs.machine.run.Tie as tie
-use Rattle.search.proofs.machine.run.Reads as reads
-use Rattle.search.proofs.machine.run.Lts as lts
-use Rattle.queue.proofs.least.Reads as least-reads
-use Rattle.search.proofs.machine.turn.Reads as turn-reads
 
 abbrev Inv-loop : tie.InvT-loop
 Inv-loop vertices polygons marks task budget floats₀ words₀ tree₀ counts₀ left₀ floats words tree counts left =
@@ -21,36 +17,29 @@ Inv-loop vertices polygons marks task budget floats₀ words₀ tree₀ counts�
 abbrev μ-loop : tie.MeasureT-loop
 μ-loop vertices polygons marks task budget floats₀ words₀ tree₀ counts₀ left₀ floats words tree counts left = left
 
--- src/machine.rt:167:5
 loop-holds : tie.Need-loop-holds Inv-loop μ-loop
 loop-holds c =
     let s = c .before .before .before .before .before in
     runs-begin (now (s .args .vertices)) (now (s .args .polygons)) (s .args .task) (s .args .budget) (stateOf (workOf (now (s .args .floats)) (now (s .args .words)) (now (s .args .tree))) (s .args .counts)) (s .pre .1 .0)
 
--- src/machine.rt:168:13
 turn-requires : tie.Need-turn-requires Inv-loop μ-loop
 turn-requires c κs =
     let s = c .before .before .before .before .before .before .before .before .before .before in
     let l = c .before .before .before .before .loop in
     (s .pre .0, (l .inv .sound, omega (arith, l .inv .count, s .pre .1 .1, c .before .before .before .loop-test .taken)))
 
--- src/machine.rt:171:30
 enum-known-outcome : tie.Need-enum-known-outcome Inv-loop μ-loop
 enum-known-outcome c = search needs
 
--- src/machine.rt:172:13
 same-length : tie.Need-same-length Inv-loop μ-loop
 same-length c = c .before .before .before .before .before .before .before .before .before .before .turn .kept .1 .1 .1 .1 .1 .0 ∙ c .before .before .before .before .before .before .before .before .before .before .before .before .before .before .before .loop .inv .long .floats-long
 
--- src/machine.rt:172:13
 same-length-2 : tie.Need-same-length-2 Inv-loop μ-loop
 same-length-2 c = c .before .before .before .before .before .before .before .before .before .before .turn .kept .1 .1 .1 .1 .1 .1 .0 ∙ c .before .before .before .before .before .before .before .before .before .before .before .before .before .before .before .loop .inv .long .words-long
 
--- src/machine.rt:172:13
 same-length-3 : tie.Need-same-length-3 Inv-loop μ-loop
 same-length-3 c = c .before .before .before .before .before .before .before .before .before .before .turn .kept .1 .1 .1 .1 .1 .1 .1 .0 ∙ c .before .before .before .before .before .before .before .before .before .before .before .before .before .before .before .loop .inv .long .queue-long
 
--- src/machine.rt:172:13
 returns : tie.Need-returns Inv-loop μ-loop
 returns c =
     let s = c .before .before .before .before .before .before .before .before .before .before .before .before .before .before .before .before .before .before .before .before .before in
@@ -61,15 +50,12 @@ returns c =
 enum-told : tie.Need-enum-told Inv-loop μ-loop
 enum-told c = search needs
 
--- src/machine.rt:174:9
 sub-left : tie.Need-sub-left Inv-loop μ-loop
 sub-left c = omega arith
 
--- src/machine.rt:167:5
 loop-less : tie.Need-loop-less Inv-loop μ-loop
 loop-less c = omega arith
 
--- src/machine.rt:167:5
 loop-again : tie.Need-loop-again Inv-loop μ-loop
 loop-again c =
     let s = c .before .before .before .before .before .before .before .before .before .before .before .before .before .before .before .before .before .before .before .before in
@@ -77,26 +63,21 @@ loop-again c =
     let at = stateOf (workOf (l .floats) (l .words) (l .tree)) (l .counts) in
     runs-next (now (s .args .vertices)) (now (s .args .polygons)) (now (s .args .marks)) (s .args .task) (s .args .budget) (stateOf (workOf (now (s .args .floats)) (now (s .args .words)) (now (s .args .tree))) (s .args .counts)) at (l .left) (s .pre .0) (l .inv) (c .before .before .before .before .before .before .before .before .before .before .before .before .before .loop-test .taken) _ (c .before .before .before .before .before .before .before .before .before .turn .ensures) (c .enum-told .given .1) (record { floats-long = c .before .before .before .before .before .before .before .before .before .turn .kept .1 .1 .1 .1 .1 .0; words-long = c .before .before .before .before .before .before .before .before .before .turn .kept .1 .1 .1 .1 .1 .1 .0; queue-long = c .before .before .before .before .before .before .before .before .before .turn .kept .1 .1 .1 .1 .1 .1 .1 .0 })
 
--- src/machine.rt:176:8
 least-requires : tie.Need-least-requires Inv-loop μ-loop
 least-requires c κs =
     let s = c .before .before .before .before .before .before .before .before in
     let h = c .before .before .loop .inv .sound .sound in
     omega (arith, h .some, h .taken-in, h .fit .room .queue-room)
 
--- src/machine.rt:177:9
 same-length-4 : tie.Need-same-length-4 Inv-loop μ-loop
 same-length-4 c = c .before .before .before .before .loop .inv .long .floats-long
 
--- src/machine.rt:177:9
 same-length-5 : tie.Need-same-length-5 Inv-loop μ-loop
 same-length-5 c = c .before .before .before .before .loop .inv .long .words-long
 
--- src/machine.rt:177:9
 same-length-6 : tie.Need-same-length-6 Inv-loop μ-loop
 same-length-6 c = c .before .before .before .before .loop .inv .long .queue-long
 
--- src/machine.rt:177:9
 returns-2 : tie.Need-returns-2 Inv-loop μ-loop
 returns-2 c =
     let s = c .before .before .before .before .before .before .before .before .before .before in
@@ -104,19 +85,15 @@ returns-2 c =
     let at = stateOf (workOf (l .floats) (l .words) (l .tree)) (l .counts) in
     runs-empty (now (s .args .vertices)) (now (s .args .polygons)) (now (s .args .marks)) (s .args .task) (s .args .budget) (stateOf (workOf (now (s .args .floats)) (now (s .args .words)) (now (s .args .tree))) (s .args .counts)) at (l .left) (s .pre .0) (l .inv) (c .before .before .before .loop-test .left) (least-is (now (s .args .vertices)) (now (s .args .polygons)) (s .args .task) (l .floats) (l .words) (l .tree) (l .counts) (l .inv .sound) (c .before .least .ensures .1)) (c .if1 .taken)
 
--- src/machine.rt:149:1
 same-length-7 : tie.Need-same-length-7 Inv-loop μ-loop
 same-length-7 c = c .before .before .before .before .loop .inv .long .floats-long
 
--- src/machine.rt:149:1
 same-length-8 : tie.Need-same-length-8 Inv-loop μ-loop
 same-length-8 c = c .before .before .before .before .loop .inv .long .words-long
 
--- src/machine.rt:149:1
 same-length-9 : tie.Need-same-length-9 Inv-loop μ-loop
 same-length-9 c = c .before .before .before .before .loop .inv .long .queue-long
 
--- src/machine.rt:149:1
 returns-3 : tie.Need-returns-3 Inv-loop μ-loop
 returns-3 c =
     let s = c .before .before .before .before .before .before .before .before .before .before in

@@ -1,3 +1,4 @@
+-- `search::machine::search_from` meets its contract. Assumes nothing.
 use borrow.Author.Needs.{needs}
 use denote.Ref.{now}
 use native.Mathlib.Omega.{arith}
@@ -6,68 +7,49 @@ use Rattle.search.specs.Layout.{workOf}
 use Rattle.search.proofs.Running.{first-fit, first-leaves, first-apart, made-sound, made-uncounted, searches-full, searches-on}
 use Rattle.search.proofs.machine.search_from.Statement.{statement}
 use Rattle.search.proofs.machine.search_from.Tie as tie
-use Rattle.search.proofs.machine.search_from.Reads as reads
-use Rattle.search.proofs.machine.search_from.Lts as lts
-use Rattle.search.proofs.machine.plant.Reads as plant-reads
-use Rattle.search.proofs.machine.run.Reads as run-reads
-use Rattle.search.proofs.making.make_steps.Reads as make-steps-reads
-use Rattle.steps.proofs.Node.seed.Reads as seed-reads
 
--- src/machine.rt:217:34
 cast-seed : tie.Need-cast-seed
 cast-seed c = search needs
 
--- src/machine.rt:217:9
 seed-requires : tie.Need-seed-requires
 seed-requires c κs = search needs
 
--- src/machine.rt:218:5
 plant-requires : tie.Need-plant-requires
 plant-requires c κs = search needs
 
--- src/machine.rt:229:9
 make-steps-requires : tie.Need-make-steps-requires
 make-steps-requires c κs =
     let s = c .before .before .before .before .before .before .before .before .before .before .before .before .before .before .before .before .before .before .before in
     (first-fit (now (s .args .vertices)) (now (s .args .polygons)) (now (s .args .marks)) (s .args .task) (s .args .start) (s .args .p) (workOf (now (s .args .floats)) (now (s .args .words)) (now (s .args .tree))) (s .pre .0) (s .pre .1 .0 .0) (s .pre .1 .0 .1) (s .pre .1 .1 .0) (s .pre .1 .1 .1) (c .before .before .before .before .before .before .before .before .before .before .before .before .before .seed .ensures) (c .before .before .before .before .before .before .before .before .before .plant .ensures _), (first-leaves (now (s .args .vertices)) (now (s .args .polygons)) (now (s .args .marks)) (s .args .task) (s .args .start) (s .args .p) (workOf (now (s .args .floats)) (now (s .args .words)) (now (s .args .tree))) (s .pre .0) (s .pre .1 .0 .0) (s .pre .1 .0 .1) (s .pre .1 .1 .0) (s .pre .1 .1 .1) (c .before .before .before .before .before .before .before .before .before .before .before .before .before .seed .ensures) (c .before .before .before .before .before .before .before .before .before .plant .ensures _), (s .pre .0, first-apart (now (s .args .vertices)) (now (s .args .polygons)) (now (s .args .marks)) (s .args .task) (s .args .start) (s .args .p) (workOf (now (s .args .floats)) (now (s .args .words)) (now (s .args .tree))) (s .pre .0) (s .pre .1 .0 .0) (s .pre .1 .0 .1) (s .pre .1 .1 .0) (s .pre .1 .1 .1) (c .before .before .before .before .before .before .before .before .before .before .before .before .before .seed .ensures) (c .before .before .before .before .before .before .before .before .before .plant .ensures _))))
 
--- src/machine.rt:242:9
 same-length : tie.Need-same-length
 same-length c = search needs
 
--- src/machine.rt:242:9
 same-length-2 : tie.Need-same-length-2
 same-length-2 c = search needs
 
--- src/machine.rt:242:9
 same-length-3 : tie.Need-same-length-3
 same-length-3 c = search needs
 
--- src/machine.rt:242:9
 returns : tie.Need-returns
 returns c =
     let s = c .before .before .before .before .before .before .before .before .before .before .before .before .before .before .before .before .before .before .before .before .before .before .before .before .before .before .before .before in
     searches-full (now (s .args .vertices)) (now (s .args .polygons)) (now (s .args .marks)) (s .args .task) (s .args .start) (s .args .p) (workOf (now (s .args .floats)) (now (s .args .words)) (now (s .args .tree))) (s .pre .0) (s .pre .1 .0 .0) (s .pre .1 .0 .1) (s .pre .1 .1 .0) (s .pre .1 .1 .1) (c .before .before .before .before .before .before .before .before .before .before .before .before .before .before .before .before .before .before .before .before .before .before .seed .ensures) (c .before .before .before .before .before .before .before .before .before .before .before .before .before .before .before .before .before .before .plant .ensures _) _ (c .before .before .before .before .before .before .before .before .make-steps .ensures) (s .args .budget) (c .if1 .taken)
 
--- src/machine.rt:247:5
 run-requires : tie.Need-run-requires
 run-requires c κs =
     let s = c .before .before .before .before .before .before .before .before .before .before .before .before .before .before .before .before .before .before .before .before .before .before .before .before .before .before .before .before .before .before .before in
     (s .pre .0, (made-sound (now (s .args .vertices)) (now (s .args .polygons)) (now (s .args .marks)) (s .args .task) (s .args .start) (s .args .p) (workOf (now (s .args .floats)) (now (s .args .words)) (now (s .args .tree))) (s .pre .0) (s .pre .1 .0 .0) (s .pre .1 .0 .1) (s .pre .1 .1 .0) (s .pre .1 .1 .1) (c .before .before .before .before .before .before .before .before .before .before .before .before .before .before .before .before .before .before .before .before .before .before .before .before .before .seed .ensures) (c .before .before .before .before .before .before .before .before .before .before .before .before .before .before .before .before .before .before .before .before .before .plant .ensures _) _ (c .before .before .before .before .before .before .before .before .before .before .before .make-steps .ensures), omega (arith, made-uncounted (now (s .args .vertices)) (now (s .args .polygons)) (now (s .args .marks)) (s .args .task) (s .args .start) (s .args .p) (workOf (now (s .args .floats)) (now (s .args .words)) (now (s .args .tree))) (s .pre .0) (s .pre .1 .0 .0) (s .pre .1 .0 .1) (s .pre .1 .1 .0) (s .pre .1 .1 .1) (c .before .before .before .before .before .before .before .before .before .before .before .before .before .before .before .before .before .before .before .before .before .before .before .before .before .seed .ensures) (c .before .before .before .before .before .before .before .before .before .before .before .before .before .before .before .before .before .before .before .before .before .plant .ensures _) _ (c .before .before .before .before .before .before .before .before .before .before .before .make-steps .ensures), s .fits)))
 
--- src/machine.rt:200:1
 same-length-4 : tie.Need-same-length-4
 same-length-4 c = c .before .before .before .before .before .before .run .kept .1 .1 .1 .1 .1 .1 .0 ∙ c .before .before .before .before .before .before .before .before .before .before .before .before .before .before .before .before .before .before .make-steps .kept .1 .1 .1 .1 .1 .1 .0 ∙ c .before .before .before .before .before .before .before .before .before .before .before .before .before .before .before .before .before .before .before .before .before .before .before .before .before .before .before .before .plant .kept .1 .1 .0
 
--- src/machine.rt:200:1
 same-length-5 : tie.Need-same-length-5
 same-length-5 c = c .before .before .before .before .before .before .run .kept .1 .1 .1 .1 .1 .1 .1 .0 ∙ c .before .before .before .before .before .before .before .before .before .before .before .before .before .before .before .before .before .before .make-steps .kept .1 .1 .1 .1 .1 .1 .1 .0 ∙ c .before .before .before .before .before .before .before .before .before .before .before .before .before .before .before .before .before .before .before .before .before .before .before .before .before .before .before .before .plant .kept .1 .1 .1 .0
 
--- src/machine.rt:200:1
 same-length-6 : tie.Need-same-length-6
 same-length-6 c = search needs
 
--- src/machine.rt:200:1
 returns-2 : tie.Need-returns-2
 returns-2 c =
     let s = c .before .before .before .before .before .before .before .before .before .before .before .before .before .before .before .before .before .before .before .before .before .before .before .before .before .before .before .before .before .before .before .before .before .before .before .before .before .before in

@@ -1,3 +1,4 @@
+-- `search::machine::visit` meets its contract. Assumes nothing.
 use borrow.Author.Needs.{needs}
 use denote.Ref.{now}
 use native.Mathlib.Omega.{arith}
@@ -8,30 +9,19 @@ use Rattle.search.specs.Search.{stateOf}
 use Rattle.search.proofs.Stepping.{visits-beaten, visits-goal, visits-full, visits-on, leaves-of}
 use Rattle.search.proofs.machine.visit.Statement.{statement}
 use Rattle.search.proofs.machine.visit.Tie as tie
-use Rattle.search.proofs.machine.visit.Reads as reads
-use Rattle.search.proofs.machine.visit.Lts as lts
-use Rattle.search.proofs.machine.is_beaten.Reads as is-beaten-reads
-use Rattle.search.proofs.making.make_steps.Reads as make-steps-reads
-use Rattle.search.proofs.places.depth_at.Reads as depth-at-reads
-use Rattle.search.proofs.places.node_at.Reads as node-at-reads
 
--- src/machine.rt:63:9
 node-at-requires : tie.Need-node-at-requires
 node-at-requires c κs = search needs
 
--- src/machine.rt:64:8
 is-beaten-requires : tie.Need-is-beaten-requires
 is-beaten-requires c κs = search needs
 
--- src/machine.rt:65:9
 same-length : tie.Need-same-length
 same-length c = search needs
 
--- src/machine.rt:65:9
 same-length-2 : tie.Need-same-length-2
 same-length-2 c = search needs
 
--- src/machine.rt:65:9
 returns : tie.Need-returns
 returns c =
     let s = c .before .before .before .before .before .before .before .before .before .before .before in
@@ -39,19 +29,15 @@ returns c =
     let was = stateOf (workOf (now (s .args .floats)) (now (s .args .words)) (now (s .args .tree))) (s .args .counts) in
     visits-beaten f (s .args .task) was (s .args .i) (c .before .before .before .node-at .ensures) (c .before .is-beaten .ensures) (c .if1 .taken)
 
--- src/machine.rt:70:8
 cast-if2 : tie.Need-cast-if2
 cast-if2 c = search needs
 
--- src/machine.rt:71:9
 same-length-3 : tie.Need-same-length-3
 same-length-3 c = search needs
 
--- src/machine.rt:71:9
 same-length-4 : tie.Need-same-length-4
 same-length-4 c = search needs
 
--- src/machine.rt:71:9
 returns-2 : tie.Need-returns-2
 returns-2 c =
     let s = c .before .before .before .before .before .before .before .before .before .before .before .before .before .before in
@@ -59,32 +45,26 @@ returns-2 c =
     let was = stateOf (workOf (now (s .args .floats)) (now (s .args .words)) (now (s .args .tree))) (s .args .counts) in
     visits-goal f (s .args .task) was (s .args .i) (c .before .before .before .before .before .before .node-at .ensures) (c .before .before .before .before .is-beaten .ensures) (c .before .before .before .if1 .left) (c .if2 .taken)
 
--- src/machine.rt:78:16
 depth-at-requires : tie.Need-depth-at-requires
 depth-at-requires c κs =
     let s = c .before .before .before .before .before .before .before .before .before .before .before .before .before .before .before in
     omega (arith, s .pre .1 .1, s .pre .1 .0 .sound .taken-in, s .pre .1 .0 .sound .fit .room .words-room)
 
--- src/machine.rt:81:9
 make-steps-requires : tie.Need-make-steps-requires
 make-steps-requires c κs =
     let s = c .before .before .before .before .before .before .before .before .before .before .before .before .before .before .before .before .before .before .before in
     let was = stateOf (workOf (now (s .args .floats)) (now (s .args .words)) (now (s .args .tree))) (s .args .counts) in
     (s .pre .1 .0 .sound .fit, (leaves-of (now (s .args .vertices)) (now (s .args .polygons)) (s .args .task) was (s .args .i) (s .pre .1 .0) (s .pre .1 .1) (c .before .before .before .before .before .before .before .before .before .before .before .node-at .ensures) (c .before .before .before .depth-at .ensures), (s .pre .0, ne-eqb _ _ (c .before .before .before .before .before .if2 .left))))
 
--- src/machine.rt:94:9
 same-length-5 : tie.Need-same-length-5
 same-length-5 c = search needs
 
--- src/machine.rt:94:9
 same-length-6 : tie.Need-same-length-6
 same-length-6 c = search needs
 
--- src/machine.rt:94:9
 same-length-7 : tie.Need-same-length-7
 same-length-7 c = search needs
 
--- src/machine.rt:94:9
 returns-3 : tie.Need-returns-3
 returns-3 c =
     let s = c .before .before .before .before .before .before .before .before .before .before .before .before .before .before .before .before .before .before .before .before .before .before .before .before .before .before .before .before in
@@ -92,19 +72,15 @@ returns-3 c =
     let was = stateOf (workOf (now (s .args .floats)) (now (s .args .words)) (now (s .args .tree))) (s .args .counts) in
     visits-full f (s .args .task) was (s .args .i) (c .before .before .before .before .before .before .before .before .before .before .before .before .before .before .before .before .before .before .before .before .node-at .ensures) (c .before .before .before .before .before .before .before .before .before .before .before .before .before .before .before .before .before .before .is-beaten .ensures) (c .before .before .before .before .before .before .before .before .before .before .before .before .before .before .before .before .before .if1 .left) (c .before .before .before .before .before .before .before .before .before .before .before .before .before .before .if2 .left) (c .before .before .before .before .before .before .before .before .before .before .before .before .depth-at .ensures) _ (c .before .before .before .before .before .before .before .before .make-steps .ensures) (c .if3 .taken)
 
--- src/machine.rt:47:1
 same-length-8 : tie.Need-same-length-8
 same-length-8 c = search needs
 
--- src/machine.rt:47:1
 same-length-9 : tie.Need-same-length-9
 same-length-9 c = search needs
 
--- src/machine.rt:47:1
 same-length-10 : tie.Need-same-length-10
 same-length-10 c = search needs
 
--- src/machine.rt:47:1
 returns-4 : tie.Need-returns-4
 returns-4 c =
     let s = c .before .before .before .before .before .before .before .before .before .before .before .before .before .before .before .before .before .before .before .before .before .before .before .before .before .before .before .before in

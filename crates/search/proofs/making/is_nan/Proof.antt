@@ -1,10 +1,8 @@
+-- `search::making::is_nan` meets its contract. Assumes nothing.
 use Rattle.search.proofs.Keeping.{differs}
 use Rattle.search.proofs.making.is_nan.Statement.{statement}
 use Rattle.search.proofs.making.is_nan.Tie as tie
-use Rattle.search.proofs.making.is_nan.Reads as reads
-use Rattle.search.proofs.making.is_nan.Lts as lts
 
--- src/making.rt:37:1
 returns : tie.Need-returns
 returns c = differs (c .args .x)
 

@@ -1,3 +1,4 @@
+-- `search::making::keep` meets its contract. Assumes nothing.
 use borrow.Author.Needs.{needs}
 use denote.Ref.{now}
 use Rattle.search.specs.Search.{tookRecord}
@@ -5,77 +6,55 @@ use native.Mathlib.Omega.{arith}
 use Rattle.search.proofs.Keeping.{record-for-le, keeps-none, keeps-record, keeps-new}
 use Rattle.search.proofs.making.keep.Statement.{statement}
 use Rattle.search.proofs.making.keep.Tie as tie
-use Rattle.search.proofs.making.keep.Reads as reads
-use Rattle.search.proofs.making.keep.Lts as lts
-use Rattle.queue.proofs.push.Reads as push-reads
-use Rattle.search.proofs.places.put_distance.Reads as put-distance-reads
-use Rattle.search.proofs.places.put_record.Reads as put-record-reads
-use Rattle.search.proofs.places.record_distance.Reads as record-distance-reads
-use Rattle.search.proofs.places.record_for.Reads as record-for-reads
 
--- src/making.rt:58:9
 record-for-requires : tie.Need-record-for-requires
 record-for-requires c κs = search needs
 
--- src/making.rt:60:12
 record-distance-requires : tie.Need-record-distance-requires
 record-distance-requires c κs = search needs
 
--- src/making.rt:61:13
 same-length : tie.Need-same-length
 same-length c = search needs
 
--- src/making.rt:61:13
 returns : tie.Need-returns
 returns c =
     let s = c .before .before .before .before .before .before .before .before in
     λ ws. keeps-none (s .args .task .places) (now (s .args .floats)) ws (now (s .args .tree)) (s .args .counts) (s .args .i) (s .args .node) (c .before .before .before .before .record-for .ensures) (c .before .before .before .if1 .taken) (rw (← c .before .record-distance .ensures) (c .if2 .taken))
 
--- src/making.rt:63:9
 put-distance-requires : tie.Need-put-distance-requires
 put-distance-requires c κs = search needs
 
--- src/making.rt:64:9
 push-requires : tie.Need-push-requires
 push-requires c κs = search needs
 
--- src/making.rt:65:9
 same-length-2 : tie.Need-same-length-2
 same-length-2 c = search needs
 
--- src/making.rt:65:9
 same-length-3 : tie.Need-same-length-3
 same-length-3 c = search needs
 
--- src/making.rt:65:9
 returns-2 : tie.Need-returns-2
 returns-2 c =
     let s = c .before .before .before .before .before .before .before .before .before .before .before .before .before .before .before .before .before in
     λ ws. keeps-record (s .args .task .places) (now (s .args .floats)) ws (now (s .args .tree)) (s .args .counts) (s .args .i) (s .args .node) (c .before .before .before .before .before .before .before .before .before .before .before .before .before .record-for .ensures) (c .before .before .before .before .before .before .before .before .before .before .before .before .if1 .taken) (rw (← c .before .before .before .before .before .before .before .before .before .before .record-distance .ensures) (c .before .before .before .before .before .before .before .before .before .if2 .left)) (c .before .before .before .before .before .before .before .put-distance .ensures) (c .before .before .push .ensures .0)
 
--- src/making.rt:67:5
 put-record-requires : tie.Need-put-record-requires
 put-record-requires c κs =
     let s = c .before .before .before .before .before .before in
     omega (arith, record-for-le (now (s .args .floats)) (s .args .counts .records) (s .args .node .root), c .before .before .record-for .ensures, s .pre)
 
--- src/making.rt:68:5
 push-requires-2 : tie.Need-push-requires-2
 push-requires-2 c κs = search needs
 
--- src/making.rt:71:18
 add-t31 : tie.Need-add-t31
 add-t31 c = search needs
 
--- src/making.rt:45:1
 same-length-4 : tie.Need-same-length-4
 same-length-4 c = search needs
 
--- src/making.rt:45:1
 same-length-5 : tie.Need-same-length-5
 same-length-5 c = search needs
 
--- src/making.rt:45:1
 returns-3 : tie.Need-returns-3
 unfolding tookRecord
 returns-3 c =

@@ -1,3 +1,4 @@
+-- `search::making::make` meets its contract. Assumes nothing.
 use borrow.Author.Needs.{needs}
 use denote.Ref.{now}
 use mathlib.Core.Path.{sym, _∙_}
@@ -7,27 +8,16 @@ use Rattle.search.specs.Search.{stateOf}
 use Rattle.search.proofs.Keeping.{makes-none, makes-nothing, makes-full, makes-one}
 use Rattle.search.proofs.making.make.Statement.{statement}
 use Rattle.search.proofs.making.make.Tie as tie
-use Rattle.search.proofs.making.make.Reads as reads
-use Rattle.search.proofs.making.make.Lts as lts
-use Rattle.helpers.proofs.heuristic.Reads as heuristic-reads
-use Rattle.route.proofs.kind_number.Reads as kind-number-reads
-use Rattle.search.proofs.making.is_nan.Reads as is-nan-reads
-use Rattle.search.proofs.making.take.Reads as take-reads
-use Rattle.steps.proofs.Node.enter.Reads as enter-reads
 
--- src/making.rt:120:9
 enter-requires : tie.Need-enter-requires
 enter-requires c κs = search needs
 
--- src/making.rt:122:9
 heuristic-requires : tie.Need-heuristic-requires
 heuristic-requires c κs = search needs
 
--- src/making.rt:123:8
 is-nan-requires : tie.Need-is-nan-requires
 is-nan-requires c κs = search needs
 
--- src/making.rt:124:9
 returns : tie.Need-returns
 returns c =
     let s = c .before .before .before .before .before .before .before .before .before .before in
@@ -35,11 +25,9 @@ returns c =
     let was = stateOf (workOf (now (s .args .floats)) (now (s .args .words)) (now (s .args .tree))) (s .args .counts) in
     makes-none f (s .args .task) was (s .args .from) (s .args .step) (c .before .before .before .enter .ensures) (c .before .before .heuristic .ensures) (sym (c .before .is-nan .ensures) ∙ c .if1 .taken)
 
--- src/making.rt:129:8
 is-nan-requires-2 : tie.Need-is-nan-requires-2
 is-nan-requires-2 c κs = search needs
 
--- src/making.rt:130:9
 returns-2 : tie.Need-returns-2
 returns-2 c =
     let s = c .before .before .before .before .before .before .before .before .before .before .before .before in
@@ -47,7 +35,6 @@ returns-2 c =
     let was = stateOf (workOf (now (s .args .floats)) (now (s .args .words)) (now (s .args .tree))) (s .args .counts) in
     makes-nothing f (s .args .task) was (s .args .from) (s .args .step) (c .before .before .before .before .before .enter .ensures) (c .before .before .before .before .heuristic .ensures) (sym (c .before .before .before .is-nan .ensures) ∙ c .before .before .if1 .left) (sym (c .before .is-nan2 .ensures) ∙ c .if2 .taken)
 
--- src/making.rt:136:9
 returns-3 : tie.Need-returns-3
 returns-3 c =
     let s = c .before .before .before .before .before .before .before .before .before .before .before .before .before .before .before in
@@ -55,27 +42,21 @@ returns-3 c =
     let was = stateOf (workOf (now (s .args .floats)) (now (s .args .words)) (now (s .args .tree))) (s .args .counts) in
     makes-full f (s .args .task) was (s .args .from) (s .args .step) (c .before .before .before .before .before .before .before .before .enter .ensures) (c .before .before .before .before .before .before .before .heuristic .ensures) (sym (c .before .before .before .before .before .before .is-nan .ensures) ∙ c .before .before .before .before .before .if1 .left) (sym (c .before .before .before .before .is-nan2 .ensures) ∙ c .before .before .before .if2 .left) (c .if3 .taken)
 
--- src/making.rt:139:9
 kind-number-requires : tie.Need-kind-number-requires
 kind-number-requires c κs = search needs
 
--- src/making.rt:141:9
 take-requires : tie.Need-take-requires
 take-requires c κs = search needs
 
--- src/making.rt:104:1
 same-length : tie.Need-same-length
 same-length c = search needs
 
--- src/making.rt:104:1
 same-length-2 : tie.Need-same-length-2
 same-length-2 c = search needs
 
--- src/making.rt:104:1
 same-length-3 : tie.Need-same-length-3
 same-length-3 c = search needs
 
--- src/making.rt:104:1
 returns-4 : tie.Need-returns-4
 returns-4 c =
     let s = c .before .before .before .before .before .before .before .before .before .before .before .before .before .before .before .before .before .before .before .before .before .before .before .before .before .before in

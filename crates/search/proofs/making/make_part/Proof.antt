@@ -1,3 +1,4 @@
+-- `search::making::make_part` meets its contract. Assumes nothing.
 use borrow.Author.Needs.{needs}
 use denote.Ref.{now}
 use Prim.Native.Nat.{_*_, _/_, _<_}
@@ -10,50 +11,36 @@ use Rattle.search.specs.Search.{stateOf}
 use Rattle.search.proofs.Parts.{part-in, edge-in, step-is, viewed, made-by-step, made-by-none}
 use Rattle.search.proofs.making.make_part.Statement.{statement}
 use Rattle.search.proofs.making.make_part.Tie as tie
-use Rattle.search.proofs.making.make_part.Reads as reads
-use Rattle.search.proofs.making.make_part.Lts as lts
-use Rattle.search.proofs.making.make.Reads as make-reads
-use Rattle.steps.proofs.going.Going.part.Reads as part-reads
-use Rattle.steps.proofs.view.View.step.Reads as step-reads
 
--- src/making.rt:167:9
 part-requires : tie.Need-part-requires
 part-requires c κs =
     let s = c .before .before .before .before .before in
     part-in (s .args .task .slots) (now (s .args .vertices)) (now (s .args .polygons)) (s .args .from .node) (s .pre .1 .0 .stands) (s .args .going) (s .pre .1 .1 .1) (s .pre .1 .1 .2)
 
--- src/making.rt:168:11
 step-requires : tie.Need-step-requires
 step-requires c κs =
     let s = c .before .before .before .before .before .before in
     let listed = s .pre .1 .0 .stands .listed in
     (listed .few, edge-in (s .args .task .slots) (now (s .args .vertices)) (now (s .args .polygons)) (s .args .from .node) (s .pre .1 .0 .stands) (s .args .going) (s .pre .1 .1 .1) (s .pre .1 .1 .2), subst (λ (v : View). v .node .polygon < length (now (s .args .polygons)) / (s .args .task .slots * 8)) (sym (s .pre .1 .1 .0)) (viewed (floorOf (s .args .task .slots) (now (s .args .vertices)) (now (s .args .polygons))) (s .args .from .node) (listed .listed)))
 
--- src/making.rt:169:24
 enum-known-step : tie.Need-enum-known-step
 enum-known-step c = search needs
 
--- src/making.rt:169:33
 make-requires : tie.Need-make-requires
 make-requires c κs = search needs
 
--- src/making.rt:180:26
 enum-told : tie.Need-enum-told
 enum-told c = search needs
 
--- src/making.rt:149:1
 same-length : tie.Need-same-length
 same-length c = search needs
 
--- src/making.rt:149:1
 same-length-2 : tie.Need-same-length-2
 same-length-2 c = search needs
 
--- src/making.rt:149:1
 same-length-3 : tie.Need-same-length-3
 same-length-3 c = search needs
 
--- src/making.rt:149:1
 returns : tie.Need-returns
 returns c =
     let s = c .before .before .before .before .before .before .before .before .before .before .before .before .before .before .before .before .before .before .before .before in
@@ -62,7 +49,6 @@ returns c =
     let is = step-is (s .args .task .slots) (now (s .args .vertices)) (now (s .args .polygons)) (s .args .from .node) (s .pre .1 .0 .stands) (s .args .going) (s .pre .1 .1 .1) (s .pre .1 .1 .2) (s .pre .1 .1 .0) (c .before .before .before .before .before .before .before .before .before .before .before .before .before .before .part .ensures) (c .before .before .before .before .before .before .before .before .before .before .before .before .before .step .ensures) in
     made-by-step f (s .args .task) was (s .args .from) (c .before .before .before .before .before .before .make .ensures) (c .before .before .before .before .before .before .before .before .before .before .before .step2 .given .1) is
 
--- src/making.rt:149:1
 returns-2 : tie.Need-returns-2
 returns-2 c =
     let s = c .before .before .before .before .before .before .before .before .before in

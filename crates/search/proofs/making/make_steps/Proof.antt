@@ -1,18 +1,12 @@
+-- `search::making::make_steps` meets its contract. Assumes nothing.
 use denote.Ref.{now}
 use mathlib.Core.Path.{sym, _∙_}
 use borrow.Author.Tests.{not-true, not-false}
 use Rattle.search.specs.Layout.{workOf}
 use Rattle.search.specs.Search.{stateOf}
-use Rattle.search.proofs.Looping.{AsLong, Loops, leftLength, loops-begin, loops-over, loops-full, loops-next, loops-less}
+use Rattle.search.proofs.Looping.{Loops, leftLength, loops-begin, loops-over, loops-full, loops-next, loops-less}
 use Rattle.search.proofs.making.make_steps.Statement.{statement}
 use Rattle.search.proofs.making.make_steps.Tie as tie
-use Rattle.search.proofs.making.make_steps.Reads as reads
-use Rattle.search.proofs.making.make_steps.Lts as lts
-use Rattle.search.proofs.making.make_part.Reads as make-part-reads
-use Rattle.steps.proofs.going.Going.is_over.Reads as is-over-reads
-use Rattle.steps.proofs.going.Going.next.Reads as next-reads
-use Rattle.steps.proofs.going.begin.Reads as begin-reads
-use Rattle.steps.proofs.view.View.new.Reads as new-reads
 
 abbrev Inv-loop : tie.InvT-loop
 Inv-loop vertices polygons marks task from floats₀ words₀ tree₀ node slots view going₀ counts₀ floats words tree going counts =
@@ -22,47 +16,38 @@ abbrev μ-loop : tie.MeasureT-loop
 μ-loop vertices polygons marks task from floats₀ words₀ tree₀ node slots view going₀ counts₀ floats words tree going counts =
     leftLength vertices polygons task from going
 
--- src/making.rt:206:9
 new-requires : tie.Need-new-requires Inv-loop μ-loop
 new-requires c κs =
     let s = c .before .before .before .before .before .before in
     (s .pre .1 .0 .stands .first-listed, s .pre .1 .0 .stands .second-listed, s .pre .1 .1 .0 .few-vertices, s .pre .1 .1 .0 .marked)
 
--- src/making.rt:207:9
 begin-requires : tie.Need-begin-requires Inv-loop μ-loop
 begin-requires c κs =
     let s = c .before .before .before .before .before .before .before in
     s .pre .1 .0 .stands
 
--- src/making.rt:209:5
 loop-holds : tie.Need-loop-holds Inv-loop μ-loop
 loop-holds c =
     let s = c .before .before .before .before .before .before .before .before in
     loops-begin (now (s .args .vertices)) (now (s .args .polygons)) (s .args .task) (s .args .from) (s .pre .1 .0 .stands) (stateOf (workOf (now (s .args .floats)) (now (s .args .words)) (now (s .args .tree))) (s .args .counts)) (s .pre .0) (s .pre .1 .1 .1) (c .begin .ensures)
 
--- src/making.rt:209:12
 is-over-requires : tie.Need-is-over-requires Inv-loop μ-loop
 is-over-requires c κs = c .loop .inv .goes .taken-in
 
--- src/making.rt:210:13
 make-part-requires : tie.Need-make-part-requires Inv-loop μ-loop
 make-part-requires c κs =
     let s = c .before .before .before .before .before .before .before .before .before .before .before .before .before .before in
     (c .before .before .before .before .before .loop .inv .fit, (s .pre .1 .0, (c .before .before .before .before .before .before .before .new .ensures, c .before .before .before .before .before .loop .inv .goes, sym (c .before .before .before .before .is-over .ensures) ∙ not-true (c .before .before .before .before .is-over .result) (c .before .before .before .if1 .taken))))
 
--- src/making.rt:223:13
 same-length : tie.Need-same-length Inv-loop μ-loop
 same-length c = c .before .before .before .before .before .before .before .make-part .kept .1 .1 .1 .1 .1 .1 .1 .0 ∙ c .before .before .before .before .before .before .before .before .before .before .before .before .before .loop .inv .long .floats-long
 
--- src/making.rt:223:13
 same-length-2 : tie.Need-same-length-2 Inv-loop μ-loop
 same-length-2 c = c .before .before .before .before .before .before .before .make-part .kept .1 .1 .1 .1 .1 .1 .1 .1 .0 ∙ c .before .before .before .before .before .before .before .before .before .before .before .before .before .loop .inv .long .words-long
 
--- src/making.rt:223:13
 same-length-3 : tie.Need-same-length-3 Inv-loop μ-loop
 same-length-3 c = c .before .before .before .before .before .before .before .make-part .kept .1 .1 .1 .1 .1 .1 .1 .1 .1 .0 ∙ c .before .before .before .before .before .before .before .before .before .before .before .before .before .loop .inv .long .queue-long
 
--- src/making.rt:223:13
 returns : tie.Need-returns Inv-loop μ-loop
 returns c =
     let s = c .before .before .before .before .before .before .before .before .before .before .before .before .before .before .before .before .before .before .before .before .before .before in
@@ -70,13 +55,11 @@ returns c =
     let at = stateOf (workOf (l .floats) (l .words) (l .tree)) (l .counts) in
     loops-full (now (s .args .vertices)) (now (s .args .polygons)) (s .args .task) (s .args .from) (s .pre .1 .0 .stands) (stateOf (workOf (now (s .args .floats)) (now (s .args .words)) (now (s .args .tree))) (s .args .counts)) at (l .going) (l .inv) (sym (c .before .before .before .before .before .before .before .before .before .before .before .before .is-over .ensures) ∙ not-true (c .before .before .before .before .before .before .before .before .before .before .before .before .is-over .result) (c .before .before .before .before .before .before .before .before .before .before .before .if1 .taken)) _ (c .before .before .before .before .before .before .before .make-part .ensures) (c .if2 .taken)
 
--- src/making.rt:226:9
 next-requires : tie.Need-next-requires Inv-loop μ-loop
 next-requires c κs =
     let s = c .before .before .before .before .before .before .before .before .before .before .before .before .before .before .before .before .before .before .before .before .before .before .before in
     (s .pre .1 .0 .stands, (c .before .before .before .before .before .before .before .before .before .before .before .before .before .before .loop .inv .goes, (sym (c .before .before .before .before .before .before .before .before .before .before .before .before .before .is-over .ensures) ∙ not-true (c .before .before .before .before .before .before .before .before .before .before .before .before .before .is-over .result) (c .before .before .before .before .before .before .before .before .before .before .before .before .if1 .taken))))
 
--- src/making.rt:209:5
 loop-less : tie.Need-loop-less Inv-loop μ-loop
 loop-less c =
     let s = c .before .before .before .before .before .before .before .before .before .before .before .before .before .before .before .before .before .before .before .before .before .before .before .before in
@@ -84,7 +67,6 @@ loop-less c =
     let at = stateOf (workOf (l .floats) (l .words) (l .tree)) (l .counts) in
     loops-less (now (s .args .vertices)) (now (s .args .polygons)) (s .args .task) (s .args .from) (s .pre .1 .0 .stands) (stateOf (workOf (now (s .args .floats)) (now (s .args .words)) (now (s .args .tree))) (s .args .counts)) at (l .going) (l .inv) (sym (c .before .before .before .before .before .before .before .before .before .before .before .before .before .before .is-over .ensures) ∙ not-true (c .before .before .before .before .before .before .before .before .before .before .before .before .before .before .is-over .result) (c .before .before .before .before .before .before .before .before .before .before .before .before .before .if1 .taken)) (c .next .ensures)
 
--- src/making.rt:209:5
 loop-again : tie.Need-loop-again Inv-loop μ-loop
 loop-again c =
     let s = c .before .before .before .before .before .before .before .before .before .before .before .before .before .before .before .before .before .before .before .before .before .before .before .before in
@@ -92,19 +74,15 @@ loop-again c =
     let at = stateOf (workOf (l .floats) (l .words) (l .tree)) (l .counts) in
     loops-next (now (s .args .vertices)) (now (s .args .polygons)) (s .args .task) (s .args .from) (s .pre .1 .0 .stands) (stateOf (workOf (now (s .args .floats)) (now (s .args .words)) (now (s .args .tree))) (s .args .counts)) at (l .going) (l .inv) (sym (c .before .before .before .before .before .before .before .before .before .before .before .before .before .before .is-over .ensures) ∙ not-true (c .before .before .before .before .before .before .before .before .before .before .before .before .before .before .is-over .result) (c .before .before .before .before .before .before .before .before .before .before .before .before .before .if1 .taken)) _ (c .before .before .before .before .before .before .before .before .before .make-part .ensures) (c .before .before .if2 .left) (record { floats-long = c .before .before .before .before .before .before .before .before .before .make-part .kept .1 .1 .1 .1 .1 .1 .1 .0; words-long = c .before .before .before .before .before .before .before .before .before .make-part .kept .1 .1 .1 .1 .1 .1 .1 .1 .0; queue-long = c .before .before .before .before .before .before .before .before .before .make-part .kept .1 .1 .1 .1 .1 .1 .1 .1 .1 .0 }) (c .next .ensures)
 
--- src/making.rt:188:1
 same-length-4 : tie.Need-same-length-4 Inv-loop μ-loop
 same-length-4 c = c .before .before .loop .inv .long .floats-long
 
--- src/making.rt:188:1
 same-length-5 : tie.Need-same-length-5 Inv-loop μ-loop
 same-length-5 c = c .before .before .loop .inv .long .words-long
 
--- src/making.rt:188:1
 same-length-6 : tie.Need-same-length-6 Inv-loop μ-loop
 same-length-6 c = c .before .before .loop .inv .long .queue-long
 
--- src/making.rt:188:1
 returns-2 : tie.Need-returns-2 Inv-loop μ-loop
 returns-2 c =
     let s = c .before .before .before .before .before .before .before .before .before .before .before in

@@ -1,3 +1,4 @@
+-- `search::places::interval_at` meets its contract. Assumes nothing.
 use borrow.Author.Needs.{needs}
 use Rattle.search.specs.Layout.{intervalIn, floatAt}
 use Rattle.search.proofs.places.interval_at.Statement.{statement}

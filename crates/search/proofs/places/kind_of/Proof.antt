@@ -1,3 +1,4 @@
+-- `search::places::kind_of` meets its contract. Assumes nothing.
 use borrow.Author.Tests.{eq-eqb}
 use borrow.Author.Tests.{ne-eqb}
 use Rattle.search.specs.Layout.{kindOf}

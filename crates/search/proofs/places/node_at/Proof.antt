@@ -1,3 +1,4 @@
+-- `search::places::node_at` meets its contract. Assumes nothing.
 use borrow.Author.Needs.{needs}
 use Rattle.search.specs.Layout.{nodeIn, floatAt, wordAt}
 use Rattle.search.proofs.places.node_at.Statement.{statement}

@@ -1,3 +1,4 @@
+-- `search::places::record_for` meets its contract. Assumes nothing.
 use Prim.Native.Nat.{ℕ, _≤_, _<_, _-_}
 use Rattle.counts.proofs.Laws.{first-is}
 use borrow.Author.Count.{below-none, below-more}
@@ -5,8 +6,7 @@ use borrow.Author.Needs.{needs}
 use mathlib.Core.Path.{_≡_, sym}
 use native.Mathlib.Omega.{arith}
 use Rattle.search.specs.Layout.{recordFor}
-use mathlib.Core.Bool.{false, true}
-use Prim.Native.Nat.{_+_}
+use mathlib.Core.Bool.{false}
 use Rattle.helpers.specs.Point.{sameOf}
 use Rattle.search.specs.Layout.{recordRoot}
 use Rattle.search.proofs.places.record_for.Statement.{statement}

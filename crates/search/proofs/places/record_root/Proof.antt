@@ -1,3 +1,4 @@
+-- `search::places::record_root` meets its contract. Assumes nothing.
 use borrow.Author.Needs.{needs}
 use Rattle.search.specs.Layout.{recordRoot, floatAt}
 use Rattle.search.proofs.places.record_root.Statement.{statement}

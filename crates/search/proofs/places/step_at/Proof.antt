@@ -1,3 +1,4 @@
+-- `search::places::step_at` meets its contract. Assumes nothing.
 use borrow.Author.Needs.{needs}
 use Rattle.search.specs.Layout.{stepIn, wordAt}
 use Rattle.search.proofs.places.step_at.Statement.{statement}

@@ -1,7 +1,7 @@
 -- `tell` meets its contract: the route where the search arrived, else how it ended. Assumes nothing.
 use denote.Ref.{now}
 use Prim.Native.Nat.{ℕ}
-use mathlib.Core.Path.{_≡_, sym, ap, _∙_, subst}
+use mathlib.Core.Path.{sym, ap, _∙_, subst}
 use mathlib.Core.List.{List}
 use Rattle.search.specs.Layout.{workOf}
 use Rattle.search.specs.Whole.{Told}

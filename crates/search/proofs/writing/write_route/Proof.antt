@@ -1,6 +1,6 @@
 -- `write_route` meets its contract: the end, the chain and the seed, and what stood behind them stays. Assumes nothing.
 use denote.Ref.{now}
-use mathlib.Core.Path.{_≡_, sym, ap}
+use mathlib.Core.Path.{sym, ap}
 use Rattle.search.specs.Whole.{Told}
 use Prim.Native.Nat.{ℕ}
 use mathlib.Core.List.{List}

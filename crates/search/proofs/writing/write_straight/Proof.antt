@@ -1,6 +1,6 @@
 -- `write_straight` meets its contract: the end and the seed, and what stood behind them stays. Assumes nothing.
 use denote.Ref.{now}
-use mathlib.Core.Path.{_≡_, sym, ap}
+use mathlib.Core.Path.{sym, ap}
 use Rattle.search.specs.Whole.{Told}
 use Rattle.search.proofs.Written.{straight-short, straight-told, seed-few}
 use borrow.Author.Needs.{needs}
