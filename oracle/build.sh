@@ -120,3 +120,12 @@ lay_workspace() {
 build() { # CARGO ARGUMENTS
     (cd "$crates" && RUSTC=$rustc CARGO_TARGET_DIR=$out/cargo "$cargo" build --quiet --offline --release "$@")
 }
+
+# Every instruction of a run, counted one by one: by valgrind on x86-64, elsewhere by the emulator's own trace.
+instructions() { # PROGRAM WORDS...
+    if [ "$processor" = x86_64 ]; then
+        valgrind --tool=callgrind --callgrind-out-file=/dev/null "$@" 2>&1 >/dev/null | sed -n 's/^.* Collected : //p'
+    else
+        "$emulator" -one-insn-per-tb -d exec,nochain "$@" 2>&1 >/dev/null | grep -c '^Trace'
+    fi
+}

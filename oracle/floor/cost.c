@@ -1,6 +1,7 @@
 /* Looks at the largest floor, many times: cost FLOOR WHAT COUNT
    FLOOR is "linked" (no walls: the most that test 6 can ask for) or "walls" (walls only: the most that the turn vertices can).
-   WHAT is "look" (tests 2 to 6) or "turn" (the same, then the turn vertices). Prints the answer and the nanoseconds a call (0 below three calls). */
+   WHAT is "look" (tests 2 to 6) or "turn" (the same, then the turn vertices). Prints the answer and the nanoseconds of the quickest call (0 below three calls, of which none is timed:
+   there the instructions are counted). */
 #include <stdint.h>
 #include <stdio.h>
 #include <stdlib.h>
@@ -34,21 +35,26 @@ static void lay(int walls) {
     }
 }
 
+static double now(void) {
+    struct timespec time;
+    clock_gettime(CLOCK_MONOTONIC, &time);
+    return (double)time.tv_sec * 1e9 + (double)time.tv_nsec;
+}
+
 int main(int words, char **word) {
     if (words != 4) return 2;
     lay(strcmp(word[1], "walls") == 0);
     int turn = strcmp(word[2], "turn") == 0;
     long count = atol(word[3]);
     uint32_t answer = 0;
-    struct timespec begin, end;
-    clock_gettime(CLOCK_MONOTONIC, &begin);
+    double least = 0.0;
     for (long i = 0; i < count; i++) {
         const uint8_t *v = (const uint8_t *)vertices, *p = (const uint8_t *)polygons;
+        double begin = count < 3 ? 0.0 : now();
         answer = turn ? floor_turn(v, sizeof vertices, p, sizeof polygons, 0) : floor_look(v, sizeof vertices, p, sizeof polygons);
+        double taken = count < 3 ? 0.0 : now() - begin;
+        if (i == 0 || taken < least) least = taken;
     }
-    clock_gettime(CLOCK_MONOTONIC, &end);
-    double ns = (double)(end.tv_sec - begin.tv_sec) * 1e9 + (double)(end.tv_nsec - begin.tv_nsec);
-    /* Where instructions are counted, the same characters are printed each time. */
-    printf("%u %.0f\n", answer, count < 3 ? 0.0 : ns / (double)count);
+    printf("%u %.0f\n", answer, least);
     return 0;
 }

@@ -2,7 +2,7 @@
    The route goes round and round the start, from sector to sector, as a true route may: every middle record is a permitted step.
    WHAT is "end": its last record is not the true end, so the judge reads all of them and answers 23 with the last; or "wrong": the
    one before it is no step, which costs a walk all round the polygon, and the judge answers 22 with it. Prints the answer, the record and
-   the nanoseconds a call (0 below three calls). */
+   the nanoseconds of the quickest call (0 below three calls, of which none is timed: there the instructions are counted). */
 #include <stdio.h>
 #include <stdlib.h>
 #include <string.h>
@@ -91,6 +91,12 @@ static void drive(int records, int wrong) {
     route[records - 1][0] = 5;
 }
 
+static double now(void) {
+    struct timespec time;
+    clock_gettime(CLOCK_MONOTONIC, &time);
+    return (double)time.tv_sec * 1e9 + (double)time.tv_nsec;
+}
+
 int main(int words, char **word) {
     if (words != 4) return 2;
     int records = atoi(word[2]);
@@ -104,12 +110,13 @@ int main(int words, char **word) {
     question[3] = vertices[goal][1] + 1.0f;
     uint32_t answer = 0;
     size_t fault = 0;
-    struct timespec begin, end;
-    clock_gettime(CLOCK_MONOTONIC, &begin);
-    for (long i = 0; i < count; i++)
+    double least = 0.0;
+    for (long i = 0; i < count; i++) {
+        double begin = count < 3 ? 0.0 : now();
         answer = cart_judge((const uint8_t *)vertices, sizeof vertices, (const uint8_t *)polygons, sizeof polygons, (const uint8_t *)question, sizeof question, (const uint8_t *)route, (size_t)records * 32, &fault);
-    clock_gettime(CLOCK_MONOTONIC, &end);
-    double ns = (double)(end.tv_sec - begin.tv_sec) * 1e9 + (double)(end.tv_nsec - begin.tv_nsec);
-    printf("%u %zu %.0f\n", answer, fault, count < 3 ? 0.0 : ns / (double)count);
+        double taken = count < 3 ? 0.0 : now() - begin;
+        if (i == 0 || taken < least) least = taken;
+    }
+    printf("%u %zu %.0f\n", answer, fault, least);
     return 0;
 }
