@@ -5,11 +5,11 @@
 ghost use mathlib.Core.Path.{_≡_};
 ghost use lib.ListN.{length};
 ghost use Rattle.judge.specs.Verdict.{verdictOf, verdictNumber, verdictRecord};
-ghost use Rattle.judge.specs.Readout.{readoutOf, writtenOf, readoutNumber, readoutValues};
+ghost use Rattle.readout.specs.Readout.{readoutOf, writtenOf, readoutNumber, readoutValues};
 ghost use Rattle.says.specs.Words.{wordsOf, laid};
 ghost use Rattle.says.specs.At.{atOf};
 ghost use Rattle.cart_c.specs.Written.{recordWritten, valueWritten};
-use judge::listing::Readout;
+use readout::Readout;
 use says::At;
 
 // Writes the record, if there is one.
@@ -65,7 +65,7 @@ pub extern "C" fn cart_read_out(
     ensures { λ _. ⌜ now (points .exit) ≡ writtenOf 8 (now (vertices .entry)) (now (polygons .entry)) (now (question .entry)) (now (route .entry)) (now (points .entry)) ⌝ }
     ensures { λ _. ⌜ now (value .exit) ≡ valueWritten (readoutValues (readoutOf 8 (now (vertices .entry)) (now (polygons .entry)) (now (question .entry)) (now (route .entry)) (now (points .entry)))) (now (value .entry)) ⌝ }
 {
-    let readout = judge::listing::read_out(vertices, polygons, question, route, points);
+    let readout = readout::read_out(vertices, polygons, question, route, points);
     put_value(value, readout);
     readout.number()
 }

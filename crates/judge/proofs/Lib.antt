@@ -5,9 +5,3 @@ pub mod Following
 pub mod Looking
 pub mod Exact
 pub mod Numbers
-pub mod Placed
-pub mod Chained
-pub mod Ended
-pub mod Answered
-pub mod Legs
-pub mod Lengths

@@ -1,18 +1,15 @@
 -- A record is sought among the steps of a node by one walk round its polygon: what one part of an edge decides, and what is left to the parts after it.
--- Rests on the laws of the walk (steps, proofs/Left). Assumes nothing.
-use Prim.Native.Nat.{ℕ, _<_}
-use native.Mathlib.Omega.{arith}
+-- Rests on the laws of the walk (steps, proofs/Left and Stepping). Assumes nothing.
+use Prim.Native.Nat.{ℕ}
 use mathlib.Core.Path.{_≡_, refl, sym, ap, _∙_}
 use mathlib.Core.Bool.{Bool, true, false, cond}
 use mathlib.Core.List.{List, [], _∷_}
 use borrow.Author.Tests.{eq-eqb, ne-eqb}
-use lib.ListN.{length}
 use Rattle.walk.specs.declared.Part.{Part}
 use Rattle.walk.specs.Walk.{partAt}
 use Rattle.walk.specs.Round.{Successor}
 use Rattle.walk.specs.Turns.{isOverOf}
-use Rattle.floor.specs.Stored.{Floor, Polygon, floorOf, polygonAt, polygon}
-use Rattle.floor.proofs.Inside.{slot-inside}
+use Rattle.floor.specs.Stored.{Floor, floorOf, polygonAt}
 use Rattle.route.specs.declared.Step.{Step}
 use Rattle.route.specs.declared.Sought.{Sought}
 use Rattle.route.specs.declared.Sought.the-variants.{Found, Missing}
@@ -25,10 +22,9 @@ use Rattle.steps.specs.declared.view.Permitted.{Permitted}
 use Rattle.steps.specs.declared.view.Permitted.the-variants.{Yes, No}
 use Rattle.steps.specs.Steps.{stepOf, andThen, stepsOver, stepsFrom}
 use Rattle.steps.specs.View.{viewOf, stepBy}
-use Rattle.steps.specs.Going.{beginGoing, nextGoing, current, leftIn, Stands, Turning, Goes}
-use Rattle.steps.proofs.Rounds.{its-polygon, turning}
+use Rattle.steps.specs.Going.{beginGoing, nextGoing, current, leftIn, Stands, Goes}
 use Rattle.steps.proofs.Left.{left-begin, left-next, left-over}
-use Rattle.steps.proofs.Seen.{step-by-view}
+use Rattle.steps.proofs.Stepping.{step-on}
 use Rattle.judge.specs.Seek.{soughtAt}
 
 -- ---- one step first
@@ -59,11 +55,6 @@ over-none : (f : Floor) (node : Node) (bytes : List ℕ) → findStep (stepsOver
 unfolding stepsOver findStep
 over-none f node bytes = refl
 
--- the view out of a node is the node's
-pub by-view : (f : Floor) (node : Node) (n : ℕ) → node .polygon < n → viewOf f node .node .polygon < n
-unfolding viewOf
-by-view f node n h = h
-
 -- ---- in the goal polygon, and elsewhere
 
 pub none-in-goal : (f : Floor) (goal : ℕ) (node : Node) (bytes : List ℕ) → node .polygon ≡ goal → findStep (stepsFrom f goal node) bytes ≡ Missing
@@ -86,33 +77,14 @@ module _ (s : ℕ) (vs ps : List ℕ) (node : Node) (h : Stands s vs ps node) (g
   seeking-ends g o e = e ∙ ap (λ (l : List Successor). findStep (stepsOver f node l) bytes) (left-over s vs ps node h g o) ∙ over-none f node bytes
 
   module _ (g : Going) (goes : Goes f node g) (on : isOverOf (g .round) ≡ false) where
-    pub edge-inside : g .edge < s
-    edge-inside =
-        let t : Turning s ps node (g .round) = turning s vs ps node h (g .round) (goes .entry-is) (goes .count-is) on in
-        slot-inside s vs ps (node .polygon) (h .listed) (g .edge) (rw (goes .edge-is on) (t .edge-in))
-
-    -- the step that the code works out is the one over the part that is on
-    step-is : (view : View) (part : Part) (p : Permitted) → view ≡ viewOf f node → part ≡ partAt (g .walked .parts) (g .part) → p ≡ stepBy (polygonAt s ps (view .node .polygon)) view (g .edge) part
-        → p ≡ stepOf f node (current g)
-    unfolding current viewOf
-    step-is view part p v k e =
-        e
-        ∙ ap (λ (w : View). stepBy (polygonAt s ps (w .node .polygon)) w (g .edge) part) v
-        ∙ ap (λ (q : Polygon). stepBy q (viewOf f node) (g .edge) part) (sym (its-polygon s vs ps node h))
-        ∙ step-by-view f node (g .edge) part
-        ∙ ap (λ (x : Part). stepOf f node (record { edge = g .edge; part = x })) k
-
     -- what is left, the part that is on first
     left-first : findStep (stepsOver f node (leftIn f node g)) bytes ≡ orElse (soughtAt (stepOf f node (current g)) bytes) (findStep (stepsOver f node (leftIn f node (nextGoing f node g))) bytes)
     left-first = ap (λ (l : List Successor). findStep (stepsOver f node l) bytes) (left-next s vs ps node h g goes on) ∙ over-first f node (current g) (leftIn f node (nextGoing f node g)) bytes
 
-    pub less-left : length (leftIn f node (nextGoing f node g)) < length (leftIn f node g)
-    less-left = rw (left-next s vs ps node h g goes on) (omega arith)
-
     module _ (view : View) (part : Part) (p : Permitted) (sought : Sought) (v : view ≡ viewOf f node) (k : part ≡ partAt (g .walked .parts) (g .part))
         (e : p ≡ stepBy (polygonAt s ps (view .node .polygon)) view (g .edge) part) (d : sought ≡ soughtAt p bytes) (inv : Sought-in f goal node bytes g) where
       asked-is : soughtAt (stepOf f node (current g)) bytes ≡ sought
-      asked-is = sym (d ∙ ap (λ (q : Permitted). soughtAt q bytes) (step-is view part p v k e))
+      asked-is = sym (d ∙ ap (λ (q : Permitted). soughtAt q bytes) (step-on s vs ps node h g view part p v k e))
 
       pub seeking-finds : (t : Step) → sought ≡ Found t → findStep (stepsFrom f goal node) bytes ≡ Found t
       seeking-finds t w = inv ∙ left-first ∙ found-first (soughtAt (stepOf f node (current g)) bytes) t _ (asked-is ∙ w)

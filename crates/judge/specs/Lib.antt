@@ -3,5 +3,3 @@ pub mod Seek
 pub mod Ready
 pub mod Verdict
 pub mod Exactly
-pub mod Points
-pub mod Readout

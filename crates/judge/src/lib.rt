@@ -18,8 +18,7 @@ use route::Record;
 use route::Sought;
 use steps::Node;
 
-pub mod listing;
-mod seek;
+pub mod seek;
 
 // What the judge says.
 pub enum Verdict {

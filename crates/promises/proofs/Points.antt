@@ -13,12 +13,12 @@ use Rattle.floor.specs.Stored.{questionOf}
 use Rattle.route.specs.declared.Judged.the-variants.{Accepted}
 use Rattle.route.specs.Record.{recordAt, endBytes}
 use Rattle.judge.specs.declared.Verdict.the-variants.{Read}
-use Rattle.judge.specs.declared.listing.Readout.{Readout}
-use Rattle.judge.specs.declared.listing.Readout.the-variants.{Short, Listed}
-use Rattle.judge.specs.Readout.{routePoints, listed, answerIf, readoutOf}
-use Rattle.judge.specs.Points.{lengthOf}
+use Rattle.readout.specs.declared.Readout.{Readout}
+use Rattle.readout.specs.declared.Readout.the-variants.{Short, Listed}
+use Rattle.readout.specs.Readout.{routePoints, listed, answerIf, readoutOf}
+use Rattle.readout.specs.Points.{lengthOf}
 use Rattle.judge.proofs.Exact.{verdict-exactly}
-use Rattle.judge.proofs.Lengths.{route-carries}
+use Rattle.readout.proofs.Lengths.{route-carries}
 use Rattle.search.specs.declared.Answer.the-variants.{Found}
 use Rattle.search.specs.Layout.{Work}
 use Rattle.search.specs.Whole.{Searched, searchOf}

@@ -1,7 +1,7 @@
 -- `cart_c::cart_read_out` meets its contract: it is made of what its callees ensure. Assumes nothing.
 use mathlib.Core.Path.{_∙_, ap}
 use borrow.Author.Needs.{needs}
-use Rattle.judge.specs.Readout.{readoutNumber, readoutValues}
+use Rattle.readout.specs.Readout.{readoutNumber, readoutValues}
 use Rattle.cart_c.specs.Written.{valueWritten}
 use Rattle.cart_c.proofs.cart_read_out.Statement.{statement}
 use Rattle.cart_c.proofs.cart_read_out.Tie as tie

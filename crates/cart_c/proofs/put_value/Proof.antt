@@ -1,7 +1,7 @@
 -- `cart_c::put_value` meets its contract: each arm is the definition's case. Assumes nothing.
 use mathlib.Core.Path.{refl, _∙_, ap}
 use borrow.Author.Needs.{needs}
-use Rattle.judge.specs.Readout.{readoutValues}
+use Rattle.readout.specs.Readout.{readoutValues}
 use Rattle.says.specs.At.{atOf}
 use Rattle.cart_c.specs.Written.{recordWritten, valueWritten}
 use Rattle.cart_c.proofs.put_value.Statement.{statement}

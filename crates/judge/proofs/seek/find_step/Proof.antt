@@ -1,5 +1,5 @@
 -- `seek::find_step` meets its contract. The loop's invariant: the record is sought among the parts that are left. Assumes nothing.
-use Prim.Native.Nat.{_*_, _/_, _<_}
+use Prim.Native.Nat.{_<_}
 use mathlib.Core.Path.{_≡_, sym, _∙_, subst}
 use lib.ListN.{length}
 use borrow.Author.Needs.{needs}
@@ -8,11 +8,11 @@ use denote.Ref.{now}
 use Rattle.floor.specs.Stored.{floorOf}
 use Rattle.route.specs.Record.{recordAt}
 use Rattle.steps.specs.declared.going.Going.{Going}
-use Rattle.steps.specs.declared.view.View.{View}
 use Rattle.steps.specs.View.{viewOf}
 use Rattle.steps.specs.Going.{leftIn, Goes}
 use Rattle.steps.proofs.Left.{begin-goes, next-goes, part-below-three}
-use Rattle.judge.proofs.Seeking.{none-in-goal, Sought-in, seeking-begins, seeking-ends, edge-inside, less-left, by-view, seeking-finds, seeking-goes-on}
+use Rattle.steps.proofs.Stepping.{viewed-polygon, edge-inside, less-left}
+use Rattle.judge.proofs.Seeking.{none-in-goal, Sought-in, seeking-begins, seeking-ends, seeking-finds, seeking-goes-on}
 use Rattle.judge.proofs.seek.find_step.Statement.{statement}
 use Rattle.judge.proofs.seek.find_step.Tie as tie
 
@@ -63,8 +63,8 @@ step-requires c κs =
     let s = l .before .before .before .before .before .before .before .before in
     let on = sym (c .before .before .is-over .ensures) ∙ not-true _ (c .before .if2 .taken) in (
       s .pre .0 .listed .few,
-      edge-inside (s .args .slots) (now (s .args .vertices)) (now (s .args .polygons)) (s .args .node) (s .pre .0) (s .args .goal) (recordAt (now (s .args .route)) (s .args .i)) (l .loop .going) (l .loop .inv .1) on,
-      subst (λ (v : View). v .node .polygon < length (now (s .args .polygons)) / (s .args .slots * 8)) (sym (l .loop .inv .0)) (by-view (floorOf (s .args .slots) (now (s .args .vertices)) (now (s .args .polygons))) (s .args .node) _ (s .pre .0 .listed .listed)),
+      edge-inside (s .args .slots) (now (s .args .vertices)) (now (s .args .polygons)) (s .args .node) (s .pre .0) (l .loop .going) (l .loop .inv .1) on,
+      viewed-polygon (floorOf (s .args .slots) (now (s .args .vertices)) (now (s .args .polygons))) (s .args .node) _ _ (l .loop .inv .0) (s .pre .0 .listed .listed),
     )
 
 step-at-requires : tie.Need-step-at-requires Inv-loop μ-loop
@@ -96,7 +96,7 @@ loop-less c =
     let s = l .before .before .before .before .before .before .before .before in
     let on = sym (c .before .before .before .before .before .before .before .is-over .ensures) ∙ not-true _ (c .before .before .before .before .before .before .if2 .taken) in
     subst (λ (g : Going). length (leftIn (floorOf (s .args .slots) (now (s .args .vertices)) (now (s .args .polygons))) (s .args .node) g) < length (leftIn (floorOf (s .args .slots) (now (s .args .vertices)) (now (s .args .polygons))) (s .args .node) (l .loop .going))) (sym (c .next .ensures))
-    (less-left (s .args .slots) (now (s .args .vertices)) (now (s .args .polygons)) (s .args .node) (s .pre .0) (s .args .goal) (recordAt (now (s .args .route)) (s .args .i)) (l .loop .going) (l .loop .inv .1) on)
+    (less-left (s .args .slots) (now (s .args .vertices)) (now (s .args .polygons)) (s .args .node) (s .pre .0) (l .loop .going) (l .loop .inv .1) on)
 
 loop-again : tie.Need-loop-again Inv-loop μ-loop
 loop-again c =

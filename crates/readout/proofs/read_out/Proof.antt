@@ -3,11 +3,11 @@ use native.Mathlib.Omega.{arith}
 use mathlib.Core.Path.{sym, _∙_}
 use lib.Dec.{lit<, lit≤}
 use denote.Ref.{now}
 use Rattle.judge.proofs.Looking.{inside-tells, ready}
-use Rattle.judge.proofs.Answered.{read-refused, read-inside}
+use Rattle.readout.proofs.Answered.{read-refused, read-inside}
 use borrow.Author.Needs.{needs}
-use Rattle.judge.proofs.listing.read_out.Statement.{statement}
-use Rattle.judge.proofs.listing.read_out.Tie as tie
+use Rattle.readout.proofs.read_out.Statement.{statement}
+use Rattle.readout.proofs.read_out.Tie as tie
 
 look-at-requires : tie.Need-look-at-requires
 look-at-requires c κs = search needs

@@ -31,10 +31,10 @@ use Rattle.route.proofs.Turns.{length-gives, begins}
 use Rattle.steps.specs.declared.Node.{Node}
 use Rattle.steps.specs.Steps.{stepsFrom, seedNode, enter}
 use Rattle.steps.specs.World.{lastLeg, endingOf, worldIn}
 use Rattle.judge.specs.Verdict.{asked}
-use Rattle.judge.specs.Points.{onto, chainFrom, chainOf, goingRound, lastPoints, pointsAlong, pointsOf}
+use Rattle.readout.specs.Points.{onto, chainFrom, chainOf, goingRound, lastPoints, pointsAlong, pointsOf}
 use Rattle.judge.proofs.Following.{seed-points}
-use Rattle.judge.proofs.Chained.{accepted-length, accepted-seed, along-end, step-counts}
+use Rattle.readout.proofs.Chained.{accepted-length, accepted-seed, along-end, step-counts}
 
 -- the last node of a chain
 unfoldable pub lastOf : Node → List Node → Node

@@ -5,13 +5,13 @@ use denote.Ref.{now}
 use Rattle.floor.specs.Stored.{floorOf}
 use Rattle.route.proofs.Turns.{length-gives}
 use Rattle.steps.specs.World.{worldIn}
 use Rattle.judge.specs.Verdict.{asked}
-use Rattle.judge.proofs.Chained.{accepted-length}
-use Rattle.judge.proofs.Ended.{points-few, count-is-written}
-use Rattle.judge.proofs.Answered.{short-is, listed-is}
+use Rattle.readout.proofs.Chained.{accepted-length}
+use Rattle.readout.proofs.Ended.{points-few, count-is-written}
+use Rattle.readout.proofs.Answered.{short-is, listed-is}
 use borrow.Author.Needs.{needs}
-use Rattle.judge.proofs.listing.list_route.Statement.{statement}
-use Rattle.judge.proofs.listing.list_route.Tie as tie
+use Rattle.readout.proofs.list_route.Statement.{statement}
+use Rattle.readout.proofs.list_route.Tie as tie
 
 point-count-requires : tie.Need-point-count-requires
 point-count-requires c κs =

@@ -13,12 +13,12 @@ use Rattle.floor.specs.Stored.{floorOf, questionOf}
 use Rattle.route.specs.declared.Judged.the-variants.{Accepted, Length, NotSeed, NotStep, NotEnd}
 use Rattle.steps.specs.declared.Node.{Node}
 use Rattle.steps.specs.World.{worldOf}
 use Rattle.judge.specs.declared.Verdict.{Verdict}
 use Rattle.judge.specs.declared.Verdict.the-variants.{Refused, Read}
-use Rattle.judge.specs.declared.listing.Readout.{Readout}
-use Rattle.judge.specs.declared.listing.Readout.the-variants.{Refused as Unread, Short, Listed}
+use Rattle.readout.specs.declared.Readout.{Readout}
+use Rattle.readout.specs.declared.Readout.the-variants.{Refused as Unread, Short, Listed}
 use Rattle.judge.specs.Verdict.{verdictOf, verdictNumber, verdictRecord}
-use Rattle.judge.specs.Points.{pointsOf}
+use Rattle.readout.specs.Points.{pointsOf}
 
 -- ---- points in a slice: x, y of each
 

@@ -10,11 +10,11 @@ use Rattle.floor.specs.Stored.{floorOf}
 use Rattle.route.specs.Judge.{lengthRight}
 use Rattle.route.proofs.Turns.{length-gives}
 use Rattle.steps.specs.World.{worldIn}
 use Rattle.judge.specs.Verdict.{asked}
 use Rattle.judge.proofs.Following.{follows-begin, follows-stops}
-use Rattle.judge.proofs.Chained.{accepted-length, accepted-seed, accepted-stops-not, Places, places-begin, places-on, place-for-root, place-for-last, places-end, room-for-all, all-placed}
-use Rattle.judge.proofs.listing.list_points.Statement.{statement}
-use Rattle.judge.proofs.listing.list_points.Tie as tie
+use Rattle.readout.proofs.Chained.{accepted-length, accepted-seed, accepted-stops-not, Places, places-begin, places-on, place-for-root, place-for-last, places-end, room-for-all, all-placed}
+use Rattle.readout.proofs.list_points.Statement.{statement}
+use Rattle.readout.proofs.list_points.Tie as tie
 
 abbrev Inv-loop : tie.InvT-loop
 Inv-loop vertices polygons slots marks goal from to route points₀ last node₀ i₀ points node i = Places slots vertices polygons goal from to route node₀ points₀ points node i × (last ≡ length route / 32 - 1)

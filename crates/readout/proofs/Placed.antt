@@ -13,8 +13,8 @@ use Rattle.helpers.specs.declared.Turn.{Turn}
 use Rattle.helpers.specs.declared.Turn.the-variants.{Around, Straight}
 use Rattle.helpers.specs.Helpers.{turningPointOf}
 use Rattle.steps.specs.declared.Node.{Node}
-use Rattle.judge.specs.Points.{lastPoints}
-use Rattle.judge.specs.Readout.{floatsOf, putPoint}
+use Rattle.readout.specs.Points.{lastPoints}
+use Rattle.readout.specs.Readout.{floatsOf, putPoint}
 
 -- ---- a point
 

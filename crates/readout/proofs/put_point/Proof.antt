@@ -2,10 +2,10 @@
 use native.Mathlib.Omega.{arith}
 use mathlib.Core.Path.{refl}
 use lib.ListN.{length-set}
-use Rattle.judge.specs.Readout.{putPoint}
+use Rattle.readout.specs.Readout.{putPoint}
 use borrow.Author.Needs.{needs}
-use Rattle.judge.proofs.listing.put_point.Statement.{statement}
-use Rattle.judge.proofs.listing.put_point.Tie as tie
+use Rattle.readout.proofs.put_point.Statement.{statement}
+use Rattle.readout.proofs.put_point.Tie as tie
 
 mul-points : tie.Need-mul-points
 mul-points c = search needs

@@ -1,10 +1,10 @@
 -- `read_route` meets its contract, verdict by verdict. Assumes nothing.
 use mathlib.Core.Path.{sym, _∙_}
 use denote.Ref.{now}
-use Rattle.judge.proofs.Answered.{read-accepted, read-length, read-seed, read-step, read-end}
+use Rattle.readout.proofs.Answered.{read-accepted, read-length, read-seed, read-step, read-end}
 use borrow.Author.Needs.{needs}
-use Rattle.judge.proofs.listing.read_route.Statement.{statement}
-use Rattle.judge.proofs.listing.read_route.Tie as tie
+use Rattle.readout.proofs.read_route.Statement.{statement}
+use Rattle.readout.proofs.read_route.Tie as tie
 
 judge-route-requires : tie.Need-judge-route-requires
 judge-route-requires c κs = search needs

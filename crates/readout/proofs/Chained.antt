@@ -1,5 +1,5 @@
 -- The parent chain record by record, and what the listing loop keeps: the points that are left, put behind those that stand, are all the points. Rests on what the judge's
--- loop keeps (proofs/Following) and on points in a slice (proofs/Placed). Assumes nothing.
+-- loop keeps (judge, proofs/Following) and on points in a slice (proofs/Placed). Assumes nothing.
 use Prim.Native.Nat.{ℕ, suc, _+_, _-_, _*_, _/_, _≤_, _<_}
 use native.Mathlib.Omega.{arith}
 use mathlib.Core.Path.{_≡_, refl, sym, ap, ap₂, _∙_, subst}
@@ -22,12 +22,12 @@ use Rattle.route.proofs.Turns.{length-gives, begins-length, begins-wrong}
 use Rattle.steps.specs.declared.Node.{Node}
 use Rattle.steps.specs.Steps.{stepsFrom, seedNode, enter}
 use Rattle.steps.specs.World.{worldIn}
 use Rattle.judge.specs.Ready.{Ready}
 use Rattle.judge.specs.Verdict.{asked}
-use Rattle.judge.specs.Points.{chainFrom, chainOf, lastPoints, pointsAlong, pointsOf}
-use Rattle.judge.specs.Readout.{floatsOf, putPoint, putRoot}
-use Rattle.judge.proofs.Placed.{put-more, put-long}
+use Rattle.readout.specs.Points.{chainFrom, chainOf, lastPoints, pointsAlong, pointsOf}
+use Rattle.readout.specs.Readout.{floatsOf, putPoint, putRoot}
+use Rattle.readout.proofs.Placed.{put-more, put-long}
 use Rattle.judge.proofs.Following.{seed-points, Follows, follows-on}
 
 -- ---- accepted: the length is right, and record 0 is the seed
 

@@ -1,9 +1,9 @@
 -- `put_root` meets its contract. Assumes nothing.
 use mathlib.Core.Path.{sym, _∙_}
-use Rattle.judge.specs.Readout.{putRoot}
+use Rattle.readout.specs.Readout.{putRoot}
 use borrow.Author.Needs.{needs}
-use Rattle.judge.proofs.listing.put_root.Statement.{statement}
-use Rattle.judge.proofs.listing.put_root.Tie as tie
+use Rattle.readout.proofs.put_root.Statement.{statement}
+use Rattle.readout.proofs.put_root.Tie as tie
 
 same-requires : tie.Need-same-requires
 same-requires c κs = search needs

@@ -2,10 +2,10 @@
 use native.Mathlib.Omega.{arith}
 use denote.Ref.{now}
 use mathlib.Core.Path.{_∙_}
-use Rattle.judge.proofs.Placed.{put-one, last-of-seed, last-around, last-straight, room-for-one, room-for-two, long-after, two-after}
+use Rattle.readout.proofs.Placed.{put-one, last-of-seed, last-around, last-straight, room-for-one, room-for-two, long-after, two-after}
 use borrow.Author.Needs.{needs}
-use Rattle.judge.proofs.listing.put_last.Statement.{statement}
-use Rattle.judge.proofs.listing.put_last.Tie as tie
+use Rattle.readout.proofs.put_last.Statement.{statement}
+use Rattle.readout.proofs.put_last.Tie as tie
 
 cast-k : tie.Need-cast-k
 cast-k c = search needs

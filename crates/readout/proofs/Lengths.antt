@@ -1,5 +1,5 @@
 -- 01's sentence on points and length, and the end record: it carries the number of the points, and their f32 sum in order from 0.0. Rests on the count (proofs/Ended), on legs
--- from equal roots (proofs/Legs) and on the exact cases (proofs/Exact). Assumes nothing.
+-- from equal roots (proofs/Legs) and on the exact cases (judge, proofs/Exact). Assumes nothing.
 use Prim.Native.Nat.{ℕ, zero, suc, _+_, _-_, _/_}
 use mathlib.Core.Path.{_≡_, refl, sym, ap, ap₂, _∙_}
 use mathlib.Core.Bool.{Bool, true, false, cond}
@@ -30,12 +30,12 @@ use Rattle.route.proofs.Verdicts.{accepted-exactly}
 use Rattle.steps.specs.declared.Node.{Node}
 use Rattle.steps.specs.Steps.{rootAfter, stepsFrom, seedNode, enter}
 use Rattle.steps.specs.World.{lastLeg, endingOf, worldIn, worldOf}
 use Rattle.judge.specs.Verdict.{asked}
-use Rattle.judge.specs.Points.{onto, chainFrom, chainOf, goingRound, lastPoints, pointsAlong, pointsOf, lengthFrom, lengthOf}
-use Rattle.judge.proofs.Chained.{along-end, along-kept, along-more}
-use Rattle.judge.proofs.Ended.{lastOf, end-bytes-of, route-count}
-use Rattle.judge.proofs.Legs.{same-sum}
+use Rattle.readout.specs.Points.{onto, chainFrom, chainOf, goingRound, lastPoints, pointsAlong, pointsOf, lengthFrom, lengthOf}
+use Rattle.readout.proofs.Chained.{along-end, along-kept, along-more}
+use Rattle.readout.proofs.Ended.{lastOf, end-bytes-of, route-count}
+use Rattle.readout.proofs.Legs.{same-sum}
 use Rattle.judge.proofs.Exact.{world-is-lawful}
 
 -- ---- roots are f32
 

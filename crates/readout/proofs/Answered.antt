@@ -17,14 +17,14 @@ use Rattle.route.specs.World.{World}
 use Rattle.route.specs.Judge.{judgeOf}
 use Rattle.steps.specs.declared.Node.{Node}
 use Rattle.steps.specs.World.{worldIn, worldOf}
 use Rattle.judge.specs.declared.Verdict.{Verdict}
 use Rattle.judge.specs.declared.Verdict.the-variants.{Refused, Read}
-use Rattle.judge.specs.declared.listing.Readout.{Readout}
-use Rattle.judge.specs.declared.listing.Readout.the-variants.{Refused as Unread, Short, Listed}
+use Rattle.readout.specs.declared.Readout.{Readout}
+use Rattle.readout.specs.declared.Readout.the-variants.{Refused as Unread, Short, Listed}
 use Rattle.judge.specs.Verdict.{asked, verdictOf}
-use Rattle.judge.specs.Points.{pointsOf}
-use Rattle.judge.specs.Readout.{floatsOf, listed, listing, answerIf, outIf, routePoints, readoutOf, writtenOf}
+use Rattle.readout.specs.Points.{pointsOf}
+use Rattle.readout.specs.Readout.{floatsOf, listed, listing, answerIf, outIf, routePoints, readoutOf, writtenOf}
 use Rattle.judge.proofs.Looking.{inside-tells}
 
 module _ (points : List Point) (out : List Float) (count : ℕ) (e : count ≡ length points) where
   pub short-is : length out < count * 2 → (Short ≡ listed points out) × (out ≡ listing points out)

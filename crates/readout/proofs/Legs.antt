@@ -16,7 +16,7 @@ use Rattle.helpers.specs.declared.point.Point.{Point}
 use Rattle.helpers.specs.Point.{sameOf, minusOf, dotOf, distanceOf}
 use Rattle.helpers.specs.Point.{lengthOf as pointLength}
 use Rattle.route.specs.Step.{HeldPoint}
-use Rattle.judge.specs.Points.{lengthFrom}
+use Rattle.readout.specs.Points.{lengthFrom}
 
 -- ---- a square knows no sign
 

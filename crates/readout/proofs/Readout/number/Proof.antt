@@ -1,7 +1,7 @@
 use borrow.Author.Needs.{needs}
-use Rattle.judge.specs.Readout.{readoutNumber}
-use Rattle.judge.proofs.listing.Readout.number.Statement.{statement}
-use Rattle.judge.proofs.listing.Readout.number.Tie as tie
+use Rattle.readout.specs.Readout.{readoutNumber}
+use Rattle.readout.proofs.Readout.number.Statement.{statement}
+use Rattle.readout.proofs.Readout.number.Tie as tie
 
 enum-known-self : tie.Need-enum-known-self
 enum-known-self c = search needs

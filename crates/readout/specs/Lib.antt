@@ -1,0 +1,3 @@
+-- The points of an accepted route, and what a read-out of them answers and writes.
+pub mod Points
+pub mod Readout
