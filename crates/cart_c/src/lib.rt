@@ -1,4 +1,4 @@
-// The judge and the read-out for a controller's firmware. A slice goes to C as its pointer and its length, a `&mut` as a
+// The search, the judge and the read-out for a controller's firmware. A slice goes to C as its pointer and its length, a `&mut` as a
 // pointer; the header include/cart.h has a word on each function. Each takes any bytes, keeps nothing between calls and calls
 // nothing outside.
 
@@ -8,9 +8,14 @@ ghost use Rattle.judge.specs.Verdict.{verdictOf, verdictNumber, verdictRecord};
 ghost use Rattle.readout.specs.Readout.{readoutOf, writtenOf, readoutNumber, readoutValues};
 ghost use Rattle.says.specs.Words.{wordsOf, laid};
 ghost use Rattle.says.specs.At.{atOf};
+ghost use Rattle.search.specs.Layout.{workOf};
+ghost use Rattle.search.specs.Whole.{searchOf};
+ghost use Rattle.search.specs.Answers.{answerSteps};
 ghost use Rattle.cart_c.specs.Written.{recordWritten, valueWritten};
+ghost use Rattle.cart_c.specs.Handed.{answerValues, handedOf, handedBy};
 use readout::Readout;
 use says::At;
+use search::Answer;
 
 // Writes the record, if there is one.
 fn put(fault: &mut usize, at: At)
@@ -77,4 +82,66 @@ pub extern "C" fn cart_words(number: u32, room: &mut [u8; 64]) -> usize
     ensures { λ _. ⌜ now (room .exit) ≡ laid (wordsOf number) (now (room .entry)) ⌝ }
 {
     says::words(number, room)
+}
+
+// The counted steps, 0 for 2 to 10.
+fn steps_of(answer: Answer) -> usize
+    ensures { λ r. ⌜ r ≡ answerSteps answer ⌝ }
+{
+    match answer {
+        Answer::Found { steps, bytes: _ } => steps,
+        Answer::NotFound { steps } => steps,
+        Answer::Refused(_) => 0,
+        Answer::NoPlaces => 0,
+        Answer::Full { steps } => steps,
+        Answer::Spent { steps } => steps,
+        Answer::Short { steps } => steps,
+    }
+}
+
+// Writes how long the route is, or the record at fault. No other number comes with a value.
+fn put_found(value: &mut usize, answer: Answer)
+    ensures { λ _. ⌜ now (value .exit) ≡ valueWritten (answerValues answer) (now (value .entry)) ⌝ }
+{
+    match answer {
+        Answer::Found { steps: _, bytes } => *value = bytes,
+        Answer::NotFound { steps: _ } => {}
+        Answer::Refused(refusal) => put(value, says::refusal_at(refusal)),
+        Answer::NoPlaces => {}
+        Answer::Full { steps: _ } => {}
+        Answer::Spent { steps: _ } => {}
+        Answer::Short { steps: _ } => {}
+    }
+}
+
+// The search. Document 01's number: 0 where a route was found, else 1 to 13; the counted steps; and on 0 the bytes written, with
+// 4, 5 and 6 the record at fault.
+#[no_mangle]
+pub extern "C" fn cart_search(
+    vertices: &[u8],
+    polygons: &[u8],
+    question: &[u8],
+    budget: usize,
+    floats: &mut [f32],
+    words: &mut [u32],
+    tree: &mut [u32],
+    out: &mut [u8],
+    steps: &mut usize,
+    value: &mut usize,
+) -> u32
+    ensures { λ r. ⌜ handedOf r (workOf (now (floats .exit)) (now (words .exit)) (now (tree .exit))) (now (out .exit)) (now (steps .exit)) (now (value .exit)) ≡ handedBy (searchOf 8 (now (vertices .entry)) (now (polygons .entry)) (now (question .entry)) budget (workOf (now (floats .entry)) (now (words .entry)) (now (tree .entry))) (now (out .entry))) (now (value .entry)) ⌝ }
+{
+    let answer = search::search(
+        vertices,
+        polygons,
+        question,
+        budget,
+        floats,
+        words,
+        tree,
+        out,
+    );
+    *steps = steps_of(answer);
+    put_found(value, answer);
+    answer.number()
 }
