@@ -4,7 +4,8 @@ fn main() {
     println!("cargo:rerun-if-env-changed=STATICLIB");
     if let Ok(folder) = std::env::var("STATICLIB") {
         println!("cargo:rustc-link-search=native={folder}");
-        println!("cargo:rerun-if-changed={folder}/libgeometry_c.a");
-        println!("cargo:rerun-if-changed={folder}/libsteps_c.a");
+        for library in ["geometry_c", "cone_c", "walk_c", "steps_c"] {
+            println!("cargo:rerun-if-changed={folder}/lib{library}.a");
+        }
     }
 }

@@ -1,23 +1,14 @@
 -- The numbers of each answer, and what is written for it, where C calls the geometry. Rests on the definitions of `helpers`. Assumes nothing.
 use Prim.Native.Nat.{ℕ}
-use mathlib.Core.Bool.{Bool, cond}
 use mathlib.Core.List.{List, [], _∷_}
 use lib.Ieee.{binary32, toBits}
 use Rattle.helpers.specs.declared.point.Point.{Point}
-use Rattle.helpers.specs.declared.point.Segment.{Segment}
 use Rattle.helpers.specs.declared.EdgeSide.{EdgeSide}
 use Rattle.helpers.specs.declared.EdgeSide.the-variants.{Left, Right, Edge}
 use Rattle.helpers.specs.declared.Crossing.{Crossing}
 use Rattle.helpers.specs.declared.Crossing.the-variants.{At, Nowhere}
 use Rattle.helpers.specs.declared.Turn.{Turn}
 use Rattle.helpers.specs.declared.Turn.the-variants.{Around, Straight}
-use Rattle.helpers.specs.Point.{fromBitsOf}
-
--- ---- arguments
-
--- a segment comes as four bit patterns
-unfoldable pub segmentOf : ℕ → ℕ → ℕ → ℕ → Segment
-segmentOf ax ay bx by = (fromBitsOf ax ay, fromBitsOf bx by)
 
 -- ---- numbers
 
@@ -25,9 +16,6 @@ unfoldable pub sideNumber : EdgeSide → ℕ
 sideNumber Left = 0
 sideNumber Right = 1
 sideNumber Edge = 2
-
-unfoldable pub truthNumber : Bool → ℕ
-truthNumber b = cond b 1 0
 
 unfoldable pub turnNumber : Turn → ℕ
 turnNumber (Around p) = 1

@@ -1,4 +1,2 @@
 -- What the contracts of `geometry_c` cite beside those of `helpers`.
 pub mod Export
-pub mod Clip
-pub mod Walk

@@ -6,24 +6,14 @@ ghost use lib.Ieee.{binary32, ofBits, toBits};
 ghost use Rattle.root.specs.Root.{rootOf};
 ghost use Rattle.helpers.specs.Point.{fromBitsOf, dotOf, perpDotOf, lengthOf, distanceOf, projectOntoOf};
 ghost use Rattle.helpers.specs.Helpers.{sideOf, mirrorOf, onSegmentOf, inBoundingBoxOf, minOf, maxOf, heuristicOf, turningPointOf, intersectionTimeOf, lineIntersectSegmentOf};
-ghost use Rattle.geometry_c.specs.Export.{segmentOf, sideNumber, truthNumber, turnNumber, crossingNumber, pointBits, turnWritten, crossingWritten};
+ghost use Rattle.patterns.specs.Patterns.{segmentOf, truthNumber};
+ghost use Rattle.geometry_c.specs.Export.{sideNumber, turnNumber, crossingNumber, pointBits, turnWritten, crossingWritten};
 use helpers::Crossing;
 use helpers::EdgeSide;
 use helpers::Point;
-use helpers::Segment;
 use helpers::Turn;
-
-mod clip;
-mod walk_edge;
-
-// The segment between two points, each coordinate a bit pattern.
-fn segment(ax: u32, ay: u32, bx: u32, by: u32) -> Segment
-    ensures { λ r. ⌜ r ≡ segmentOf ax ay bx by ⌝ }
-{
-    let a = Point::from_bits(ax, ay);
-    let b = Point::from_bits(bx, by);
-    Segment(a, b)
-}
+use patterns::segment;
+use patterns::truth_number;
 
 fn side_number(side: EdgeSide) -> u32
     ensures { λ r. ⌜ r ≡ sideNumber side ⌝ }
@@ -33,15 +23,6 @@ fn side_number(side: EdgeSide) -> u32
         EdgeSide::Right => 1,
         EdgeSide::Edge => 2,
     }
-}
-
-fn truth_number(truth: bool) -> u32
-    ensures { λ r. ⌜ r ≡ truthNumber truth ⌝ }
-{
-    if truth {
-        return 1;
-    }
-    0
 }
 
 // Writes the bit patterns of a point's coordinates.

@@ -1,4 +1,4 @@
-//! Our functions, over the C interface of the static library.
+//! Our functions, over the C interface of the static libraries.
 
 use harness::answer::{Answer, Successor, Walk};
 use harness::functions::{Input, CORNERS, ENTRY, FIRST_CORNER};
@@ -33,8 +33,18 @@ extern "C" {
     fn geometry_dot(ax: u32, ay: u32, bx: u32, by: u32) -> u32;
     fn geometry_perp_dot(ax: u32, ay: u32, bx: u32, by: u32) -> u32;
     fn geometry_project_onto(x: u32, y: u32, rx: u32, ry: u32, out: &mut [u32; 2]);
+}
+
+#[link(name = "cone_c", kind = "static")]
+#[rustfmt::skip]
+extern "C" {
     fn geometry_clip_to_cone(rx: u32, ry: u32, c0x: u32, c0y: u32, c1x: u32, c1y: u32, s0x: u32, s0y: u32, s1x: u32, s1y: u32, out: &mut [u32; 4]) -> u32;
     fn geometry_lands_on(cx: u32, cy: u32, vx: u32, vy: u32, rx: u32, ry: u32) -> u32;
+}
+
+#[link(name = "walk_c", kind = "static")]
+#[rustfmt::skip]
+extern "C" {
     fn geometry_walk_edge(rx: u32, ry: u32, i0x: u32, i0y: u32, i1x: u32, i1y: u32, ax: u32, ay: u32, bx: u32, by: u32, kind: u32, out: &mut [u32; 16]) -> u32;
 }
 

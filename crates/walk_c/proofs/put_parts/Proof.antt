@@ -1,0 +1,47 @@
+-- `walk_c::put_parts` meets its contract. The loop's invariant: i is at most the count, and out is what the first i parts make of it. The
+-- measure is what is left of the count. Assumes nothing.
+use Prim.Native.Nat.{_≤_, _-_}
+use mathlib.Core.Path.{_≡_, refl}
+use native.Mathlib.Numerals.{add-one}
+use native.Mathlib.Omega.{arith}
+use borrow.Author.Needs.{needs}
+use Rattle.walk_c.specs.Walk.{partsWritten}
+use Rattle.walk_c.proofs.put_parts.Statement.{statement}
+use Rattle.walk_c.proofs.put_parts.Tie as tie
+
+abbrev Inv-loop : tie.InvT-loop
+Inv-loop out₀ count parts i₀ out i = (i ≤ count) × (out ≡ partsWritten parts i out₀)
+
+abbrev μ-loop : tie.MeasureT-loop
+μ-loop out₀ count parts i₀ out i = count - i
+
+loop-holds : tie.Need-loop-holds Inv-loop μ-loop
+unfolding partsWritten
+loop-holds c = (omega arith, refl)
+
+mul-put-part : tie.Need-mul-put-part Inv-loop μ-loop
+mul-put-part c = omega arith
+
+array-copy-out-put-part : tie.Need-array-copy-out-put-part Inv-loop μ-loop
+array-copy-out-put-part c = omega arith
+
+put-part-requires : tie.Need-put-part-requires Inv-loop μ-loop
+put-part-requires c κs = omega arith
+
+add-i : tie.Need-add-i Inv-loop μ-loop
+add-i c = omega arith
+
+loop-less : tie.Need-loop-less Inv-loop μ-loop
+loop-less c = omega arith
+
+loop-again : tie.Need-loop-again Inv-loop μ-loop
+unfolding partsWritten
+loop-again c = (omega arith, rw (add-one, ← c .before .before .before .before .loop .inv .1) (c .put-part .ensures))
+
+returns : tie.Need-returns Inv-loop μ-loop
+returns c =
+    let all : c .before .loop .i ≡ c .before .before .args .count = omega arith in
+    rw (← all) (c .before .loop .inv .1)
+
+pub put-parts-spec : {M : Type 1} → statement M
+put-parts-spec = tie.close (tie.spec Inv-loop μ-loop loop-holds mul-put-part array-copy-out-put-part put-part-requires add-i loop-less loop-again returns)

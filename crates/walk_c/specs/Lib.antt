@@ -1,0 +1,2 @@
+-- What the contracts of `walk_c` cite beside those of `walk`.
+pub mod Walk
