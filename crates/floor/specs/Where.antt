@@ -1,9 +1,10 @@
 -- Document 01, "A permitted step": which polygon a point is in, and which vertices turn. Assumes nothing.
-use Prim.Native.Nat.{ℕ, zero, suc}
+use Prim.Native.Nat.{ℕ, zero, suc, _/_, _%_, _^_}
 use mathlib.Core.Bool.{Bool, not, _&&_, _||_, cond}
 use mathlib.Core.List.{List}
+use lib.Bits.{bitOr}
 use lib.Dec.{eqb}
-use lib.ListN.{length, set, replicate}
+use lib.ListN.{length, getD, set, replicate}
 use Rattle.counts.specs.Counts.{every, some, first}
 use Rattle.helpers.specs.declared.point.Point.{Point}
 use Rattle.helpers.specs.declared.EdgeSide.the-variants.{Right}
@@ -27,11 +28,17 @@ turnsAt f v p =
 unfoldable pub isTurn : Floor → ℕ → Bool
 isTurn f v = some (length (f .polygons)) (turnsAt f v)
 
--- ---- the turn vertices, marked once a call: 1 at each, 0 at every other of the 1,024 numbers that a vertex may have
+-- ---- the turn vertices, marked once a call: a bit for each of the 1,024 numbers that a vertex may have, bit v % 32 of word v / 32
+
+unfoldable pub isMarked : List ℕ → ℕ → Bool
+isMarked marks v = eqb (getD marks (v / 32) 0 / 2 ^ (v % 32) % 2) 1
+
+unfoldable pub markVertex : List ℕ → ℕ → List ℕ
+markVertex marks v = set marks (v / 32) (bitOr (getD marks (v / 32) 0) (2 ^ (v % 32)))
 
 -- both ends of edge i, if it is a wall
 unfoldable pub markEdge : Polygon → ℕ → List ℕ → List ℕ
-markEdge q i marks = cond (eqb (neighbour q i) unused) (set (set marks (corner q i) 1) (cornerAfter q i) 1) marks
+markEdge q i marks = cond (eqb (neighbour q i) unused) (markVertex (markVertex marks (corner q i)) (cornerAfter q i)) marks
 
 -- the first n edges of a polygon
 unfoldable pub markEdges : Polygon → ℕ → List ℕ → List ℕ
@@ -44,4 +51,4 @@ markPolygons f zero marks = marks
 markPolygons f (suc n) marks = markEdges (polygon f n) (cornerCount (polygon f n)) (markPolygons f n marks)
 
 unfoldable pub marksOf : Floor → List ℕ
-marksOf f = markPolygons f (length (f .polygons)) (replicate 1024 0)
+marksOf f = markPolygons f (length (f .polygons)) (replicate 32 0)

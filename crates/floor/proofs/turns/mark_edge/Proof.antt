@@ -24,22 +24,26 @@ corner-after-requires c κs = (c .before .before .before .before .before .pre .0
 cast-b : tie.Need-cast-b
 cast-b c = search needs
 
-element-write-marks : tie.Need-element-write-marks
-element-write-marks c =
-    let s = c .before .before .before .before .before .before in
+mark-vertex-requires : tie.Need-mark-vertex-requires
+mark-vertex-requires c κs =
+    let s = c .before .before .before .before .before .before .before in
     let ends = ends-inside (s .args .slots) (now (s .args .vertices)) (now (s .args .polygons)) (s .args .p) (s .pre .0) (s .args .i) (s .pre .1 .0) (s .pre .1 .1) in
-    omega (arith, c .before .corner .ensures, ends .0)
+    omega (arith, c .before .before .corner .ensures, ends .0)
 
 -- both ends are told, so that a wrong end is refused for what it marks, and not for where it writes
-element-write-marks-2 : tie.Need-element-write-marks-2
-element-write-marks-2 c =
-    let s = c .before .before .before .before .before .before in
+mark-vertex-requires-2 : tie.Need-mark-vertex-requires-2
+mark-vertex-requires-2 c κs =
+    let l = c .before .before .before in
+    let s = l .before .before .before .before .before .before in
     let ends = ends-inside (s .args .slots) (now (s .args .vertices)) (now (s .args .polygons)) (s .args .p) (s .pre .0) (s .args .i) (s .pre .1 .0) (s .pre .1 .1) in
-    omega (arith, c .before .corner .ensures, c .corner-after .ensures, ends .0, ends .1)
+    omega (arith, l .before .corner .ensures, l .corner-after .ensures, ends .0, ends .1)
 
 returns : tie.Need-returns
 unfolding markEdge
-returns c = rw (← c .before .before .before .neighbour .ensures, eq-eqb _ _ (c .before .before .if1 .taken), ← c .before .corner .ensures, ← c .corner-after .ensures) refl
+returns c =
+    let l = c .before .before in
+    let k = l .before .before in
+    rw (← k .before .before .before .neighbour .ensures, eq-eqb _ _ (k .before .before .if1 .taken), ← k .before .corner .ensures, ← k .corner-after .ensures, ← l .mark-vertex .ensures) (c .mark-vertex2 .ensures)
 
 returns-2 : tie.Need-returns-2
 unfolding markEdge
@@ -54,7 +58,7 @@ mark-edge-spec =
     cast-a
     corner-after-requires
     cast-b
-    element-write-marks
-    element-write-marks-2
+    mark-vertex-requires
+    mark-vertex-requires-2
     returns
     returns-2)
