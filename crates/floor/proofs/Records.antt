@@ -2,12 +2,14 @@
 use Prim.Native.Nat.{ℕ, _+_, _-_, _*_, _/_, _≤_, _<_}
 use native.Mathlib.Nat.{zero-add, le-trans, mul-le-mul-right, div-mul-le-self}
 use native.Mathlib.Omega.{arith}
+use native.Mathlib.Decide.{decLt}
 use mathlib.Core.Path.{_≡_, refl, sym, _∙_, subst}
+use mathlib.Core.Bool.{Bool, true, false, not}
 use mathlib.Core.List.{List, []}
-use lib.Dec.{eqb}
+use lib.Dec.{T, eqb}
 use lib.ListN.{length, getD, List·getD-eq-default}
 use Rattle.counts.specs.Counts.{table}
-use Rattle.counts.proofs.Laws.{every-same, length-table, getD-table, first-le}
+use Rattle.counts.proofs.Laws.{every-same, length-table, getD-table, first-le, first-at, first-below}
 use Rattle.floor.specs.Stored.{unused, origin, vertexAt, slotAt, polygonAt, floorOf, corner, neighbour, cornerCount, polygon}
 use Rattle.floor.specs.Tests.{restUnused}
 
@@ -57,6 +59,25 @@ module _ (s : ℕ) (bytes : List ℕ) (p : ℕ) where
   pub count-slots : cornerCount (polygonAt s bytes p) ≤ s
   unfolding cornerCount
   count-slots = subst (λ (v : ℕ). cornerCount (polygonAt s bytes p) ≤ v) corner-slots (first-le (length (polygonAt s bytes p .corners)) (λ i. eqb (corner (polygonAt s bytes p) i) unused))
+
+  -- the corners end at an unused slot at the latest
+  pub count-upto : (j : ℕ) → j < s → eqb (corner (polygonAt s bytes p) j) unused ≡ true → cornerCount (polygonAt s bytes p) ≤ j
+  unfolding cornerCount
+  count-upto j l e = first-below (length (polygonAt s bytes p .corners)) (λ i. eqb (corner (polygonAt s bytes p) i) unused) j (subst (λ (n : ℕ). j < n) (sym corner-slots) l) e
+
+  -- and they go on while no slot is unused
+  pub count-past : (j : ℕ) → j < s → ((k : ℕ) → k < j + 1 → eqb (corner (polygonAt s bytes p) k) unused ≡ false) → j < cornerCount (polygonAt s bytes p)
+  unfolding cornerCount
+  count-past j l used = go (decLt j (cornerCount (polygonAt s bytes p)))
+    where
+      end : cornerCount (polygonAt s bytes p) ≤ j → eqb (corner (polygonAt s bytes p) (cornerCount (polygonAt s bytes p))) unused ≡ true
+      end h = first-at (length (polygonAt s bytes p .corners)) (λ i. eqb (corner (polygonAt s bytes p) i) unused) (subst (λ (n : ℕ). cornerCount (polygonAt s bytes p) < n) (sym corner-slots) (omega (arith, h, l)))
+
+      go : Dec (j < cornerCount (polygonAt s bytes p)) → j < cornerCount (polygonAt s bytes p)
+      go (yes h) = h
+      go (no h) =
+          let m : cornerCount (polygonAt s bytes p) ≤ j = omega (arith, h) in
+          absurd (subst (λ (b : Bool). T (not b)) (sym (used (cornerCount (polygonAt s bytes p)) (omega (arith, m))) ∙ end m) tt)
 
 -- ---- the floor that the lists stand for
 

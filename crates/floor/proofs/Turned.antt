@@ -31,6 +31,7 @@ other-bit i j ne = go (decLt i j)
   where
     above : (k : ℕ) → i ≡ suc k + j → 2 ^ i / 2 ^ j % 2 ≡ 0
     above k e = rw (e, pow-add 2 (suc k) j, shl-shr (2 ^ suc k) j) (rw (one-mul (2 ^ suc k)) at (shifted-even 1 k))
+
     go : Dec (i < j) → 2 ^ i / 2 ^ j % 2 ≡ 0
     go (yes h) = rw (div-eq-of-lt (pow-lt h))
     go (no h) = above (i - suc j) (omega (arith, ne))
@@ -53,6 +54,7 @@ marked-at l i v h = go (eqb i v) refl
         let w = eqb-true (i / 32) (v / 32) e in
         rw (w, getD-set-same l (v / 32) (bitOr (getD l (v / 32) 0) (2 ^ (i % 32))) 0 h) (kept-bit (getD l (v / 32) 0) (i % 32) (v % 32) (λ p. ne (omega (arith, w, p))))
     apart ne false e = rw (getD-set-other l (i / 32) (v / 32) (bitOr (getD l (i / 32) 0) (2 ^ (i % 32))) 0 (λ p. eqb-false (i / 32) (v / 32) e (sym p)))
+
     go : (b : Bool) → eqb i v ≡ b → eqb (getD (set l (i / 32) (bitOr (getD l (i / 32) 0) (2 ^ (i % 32)))) (v / 32) 0 / 2 ^ (v % 32) % 2) 1 ≡ cond b true (eqb (getD l (v / 32) 0 / 2 ^ (v % 32) % 2) 1)
     go true e = rw (eqb-true i v e, getD-set-same l (v / 32) (bitOr (getD l (v / 32) 0) (2 ^ (v % 32))) 0 h, own-bit (getD l (v / 32) 0) (v % 32))
     go false e = rw (apart (eqb-false i v e) (eqb (i / 32) (v / 32)) refl)
