@@ -3,9 +3,9 @@ use Prim.Native.Nat.{ℕ}
 use mathlib.Core.Bool.{cond}
 use mathlib.Core.List.{List}
 use lib.Dec.{ltb}
-use lib.ListN.{getD}
 use Rattle.floor.specs.declared.FloorLook.{FloorLook}
 use Rattle.floor.specs.declared.FloorLook.the-variants.{Accepted, Faulty}
+use Rattle.floor.specs.Where.{isMarked}
 use Rattle.floor.specs.Look.{refusalNumber}
 
 -- 01's table: "0 .. accepted", else the refusal's number
@@ -15,7 +15,7 @@ lookNumber (Faulty r) = refusalNumber r
 
 -- 1 at a turn vertex, 0 at every other number
 unfoldable pub markNumber : List ℕ → ℕ → ℕ
-markNumber marks v = cond (ltb v 1024) (getD marks v 0) 0
+markNumber marks v = cond (ltb v 1024) (cond (isMarked marks v) 1 0) 0
 
 unfoldable pub turnNumber : FloorLook → ℕ → ℕ
 turnNumber Accepted mark = mark

@@ -3,7 +3,7 @@
 
 ghost use mathlib.Core.Path.{_≡_};
 ghost use Prim.Native.Nat.{_/_, _≤_};
-ghost use lib.ListN.{length, getD};
+ghost use lib.ListN.{length};
 ghost use Rattle.floor.specs.Stored.{floorOf};
 ghost use Rattle.floor.specs.Accepted.{Accepted};
 ghost use Rattle.floor.specs.Where.{marksOf};
@@ -28,8 +28,11 @@ fn mark(vertices: &[u8], polygons: &[u8], v: usize) -> u32
     ensures { λ r. ⌜ r ≡ markNumber (marksOf (floorOf 8 (now (vertices .entry)) (now (polygons .entry)))) v ⌝ }
 {
     let marks = floor::turns::turn_vertices(vertices, polygons, floor::SLOTS);
-    if v < 1024 {
-        return marks[v] as u32;
+    if 1024 <= v {
+        return 0;
+    }
+    if floor::turns::turns(&marks, v) {
+        return 1;
     }
     0
 }

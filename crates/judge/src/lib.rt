@@ -49,7 +49,7 @@ pub fn judge_route(
     vertices: &[u8],
     polygons: &[u8],
     slots: usize,
-    marks: &[u8; 1024],
+    marks: &[u32; 32],
     start: Point,
     goal: Point,
     from: u32,

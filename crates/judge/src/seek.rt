@@ -39,7 +39,7 @@ pub fn find_step(
     vertices: &[u8],
     polygons: &[u8],
     slots: usize,
-    marks: &[u8; 1024],
+    marks: &[u32; 32],
     node: Node,
     goal: u32,
     route: &[u8],

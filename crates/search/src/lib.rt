@@ -67,7 +67,7 @@ pub fn places_in(floats: &[f32], words: &[u32], queue: &[u32]) -> usize
 fn route_from(
     vertices: &[u8],
     polygons: &[u8],
-    marks: &[u8; 1024],
+    marks: &[u32; 32],
     task: Task,
     start: Point,
     p: usize,
@@ -103,7 +103,7 @@ fn route_from(
 fn route_between(
     vertices: &[u8],
     polygons: &[u8],
-    marks: &[u8; 1024],
+    marks: &[u32; 32],
     question: &[u8],
     p: usize,
     q: usize,
@@ -148,7 +148,7 @@ fn route_between(
 pub fn search_on(
     vertices: &[u8],
     polygons: &[u8],
-    marks: &[u8; 1024],
+    marks: &[u32; 32],
     question: &[u8],
     budget: usize,
     floats: &mut [f32],

@@ -47,7 +47,7 @@ fn is_beaten(floats: &[f32], records: usize, node: Node) -> bool
 fn visit(
     vertices: &[u8],
     polygons: &[u8],
-    marks: &[u8; 1024],
+    marks: &[u32; 32],
     task: Task,
     counts: Counts,
     i: usize,
@@ -106,7 +106,7 @@ fn visit(
 fn turn(
     vertices: &[u8],
     polygons: &[u8],
-    marks: &[u8; 1024],
+    marks: &[u32; 32],
     task: Task,
     counts: Counts,
     floats: &mut [f32],
@@ -149,7 +149,7 @@ fn turn(
 fn run(
     vertices: &[u8],
     polygons: &[u8],
-    marks: &[u8; 1024],
+    marks: &[u32; 32],
     task: Task,
     counts: Counts,
     budget: usize,
@@ -200,7 +200,7 @@ fn plant(task: Task, seed: Node, floats: &mut [f32], words: &mut [u32], tree: &m
 pub fn search_from(
     vertices: &[u8],
     polygons: &[u8],
-    marks: &[u8; 1024],
+    marks: &[u32; 32],
     task: Task,
     start: Point,
     p: usize,

@@ -188,7 +188,7 @@ fn make_part(
 pub fn make_steps(
     vertices: &[u8],
     polygons: &[u8],
-    marks: &[u8; 1024],
+    marks: &[u32; 32],
     task: Task,
     counts: Counts,
     from: Origin,

@@ -3,10 +3,8 @@ use Prim.Native.Nat.{ℕ, _<_}
 use mathlib.Core.Path.{_≡_, refl, ap, _∙_}
 use mathlib.Core.Bool.{Bool, true, false, not, _&&_, cond}
 use mathlib.Core.List.{List}
-use lib.Dec.{eqb}
-use lib.ListN.{getD}
 use Rattle.floor.specs.Stored.{Floor, polygon}
-use Rattle.floor.specs.Where.{isTurn, marksOf}
+use Rattle.floor.specs.Where.{isTurn, isMarked, marksOf}
 use Rattle.floor.proofs.Turned.{marks-turn}
 use Rattle.helpers.specs.declared.point.Segment.{Segment}
 use Rattle.helpers.specs.Point.{sameOf}
@@ -21,13 +19,9 @@ use Rattle.steps.specs.declared.Node.{Node}
 use Rattle.steps.specs.Steps.{isAllowed, rootAfter, clipped, stepOf}
 use Rattle.steps.specs.View.{cornerOn, viewOf, allowsOf, turnedTo, seenBy, stepBy}
 
--- a mark is a 1 at a turn vertex
-pub mark-tells : (f : Floor) (marks : List ℕ) (v : ℕ) → marks ≡ marksOf f → v < 1024 → eqb (getD marks v 0) 1 ≡ isTurn f v
-mark-tells f marks v e h = rw (e, marks-turn f v h) (go (isTurn f v))
-  where
-    go : (b : Bool) → eqb (cond b 1 0) 1 ≡ b
-    go true = refl
-    go false = refl
+-- a turn vertex is marked, and no other is
+pub mark-tells : (f : Floor) (marks : List ℕ) (v : ℕ) → marks ≡ marksOf f → v < 1024 → isMarked marks v ≡ isTurn f v
+mark-tells f marks v e h = rw (e, marks-turn f v h)
 
 module _ (f : Floor) (node : Node) where
   allows-is : (kind : SuccessorType) → allowsOf (viewOf f node) kind ≡ isAllowed f node kind

@@ -45,7 +45,7 @@ impl Corner {
         vertices: &[u8],
         polygons: &[u8],
         slots: usize,
-        marks: &[u8; 1024],
+        marks: &[u32; 32],
         v: u32,
         end: Point,
         root: Point,
@@ -54,7 +54,7 @@ impl Corner {
         ensures { λ r. ⌜ r ≡ cornerOn (floorOf slots (now (vertices .entry)) (now (polygons .entry))) v end root ⌝ }
     {
         let at = floor::stored::used_vertex(vertices, v as usize);
-        let turns = marks[v as usize] == 1;
+        let turns = floor::turns::turns(marks, v as usize);
         let lands = cone::lands_on(end, at, root);
         Corner {
             at,
@@ -69,7 +69,7 @@ impl View {
         vertices: &[u8],
         polygons: &[u8],
         slots: usize,
-        marks: &[u8; 1024],
+        marks: &[u32; 32],
         node: Node,
     ) -> View
         requires { ⌜ (node .first < length (now vertices) / 8) × (node .second < length (now vertices) / 8) × (length (now vertices) / 8 ≤ 1024) × (now marks ≡ marksOf (floorOf slots (now vertices) (now polygons))) ⌝ }

@@ -40,7 +40,7 @@ fn count_off(permitted: Permitted, k: usize) -> Counted
 pub fn kth_step(
     vertices: &[u8],
     polygons: &[u8],
-    marks: &[u8; 1024],
+    marks: &[u32; 32],
     goal: u32,
     node: Node,
     k: usize,
