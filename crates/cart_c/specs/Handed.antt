@@ -1,9 +1,9 @@
 -- What a search hands to C: the number, the buffers, the counted steps and the value. Rests on `search`'s definition of the search. Assumes nothing.
 use Prim.Native.Nat.{ℕ}
 use mathlib.Core.List.{List, _++_}
-use Rattle.search.specs.declared.Answer.{Answer}
-use Rattle.search.specs.Answers.{answerNumber, answerRecord, answerSteps, answerBytes}
-use Rattle.search.specs.Layout.{Work}
+use Rattle.writing.specs.declared.Answer.{Answer}
+use Rattle.writing.specs.Answers.{answerNumber, answerRecord, answerSteps, answerBytes}
+use Rattle.places.specs.Layout.{Work}
 use Rattle.search.specs.Whole.{Searched}
 use Rattle.cart_c.specs.Written.{valueWritten}
 

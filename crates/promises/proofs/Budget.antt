@@ -11,14 +11,15 @@ use Rattle.floor.specs.Look.{lookOf}
 use Rattle.floor.specs.Stored.{Floor, Question, floorOf, questionOf}
 use Rattle.helpers.specs.declared.point.Point.{Point}
 use Rattle.queue.specs.Queue.{none}
-use Rattle.search.specs.declared.state.Task.{Task}
-use Rattle.search.specs.declared.state.Finish.the-variants.{Emptied, Filled, Stopped}
-use Rattle.search.specs.declared.state.Outcome.{Outcome}
-use Rattle.search.specs.declared.state.Outcome.the-variants.{Goes, Ends}
-use Rattle.search.specs.Layout.{Work, leastIn, placesIn}
-use Rattle.search.specs.Search.{State, Ending, ending, step, onwards, run, searchedFrom, madeAll, begun, seedOrigin, Making}
-use Rattle.search.specs.declared.Answer.the-variants.{Spent, NoPlaces}
-use Rattle.search.specs.Whole.{Searched, searchedOf, ifInside, written, straightBytes, told, withWork, routed, betweenOf, searchOf}
+use Rattle.machine.specs.declared.Task.{Task}
+use Rattle.machine.specs.declared.Finish.the-variants.{Emptied, Filled, Stopped}
+use Rattle.machine.specs.declared.Outcome.{Outcome}
+use Rattle.machine.specs.declared.Outcome.the-variants.{Goes, Ends}
+use Rattle.places.specs.Layout.{Work, leastIn, placesIn}
+use Rattle.machine.specs.Search.{State, Ending, ending, step, onwards, run, searchedFrom, madeAll, begun, seedOrigin, Making}
+use Rattle.writing.specs.declared.Answer.the-variants.{Spent, NoPlaces}
+use Rattle.writing.specs.Told.{written, straightBytes, told}
+use Rattle.search.specs.Whole.{Searched, searchedOf, ifInside, withWork, routed, betweenOf, searchOf}
 use Rattle.steps.specs.Steps.{stepsFrom, seedNode}
 
 -- ---- a run that the budget did not stop

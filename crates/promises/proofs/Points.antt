@@ -19,8 +19,8 @@ use Rattle.readout.specs.Readout.{routePoints, listed, answerIf, readoutOf}
 use Rattle.readout.specs.Points.{lengthOf}
 use Rattle.judge.proofs.Exact.{verdict-exactly}
 use Rattle.readout.proofs.Lengths.{route-carries}
-use Rattle.search.specs.declared.Answer.the-variants.{Found}
-use Rattle.search.specs.Layout.{Work}
+use Rattle.writing.specs.declared.Answer.the-variants.{Found}
+use Rattle.places.specs.Layout.{Work}
 use Rattle.search.specs.Whole.{Searched, searchOf}
 use Rattle.promises.proofs.Routes.{found-is-accepted}
 

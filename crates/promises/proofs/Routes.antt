@@ -24,16 +24,17 @@ use Rattle.steps.proofs.World.{lawful}
 use Rattle.judge.specs.declared.Verdict.the-variants.{Read}
 use Rattle.judge.specs.Verdict.{judgeIf, verdictOf}
 use Rattle.judge.proofs.Looking.{Looked, inside-tells}
-use Rattle.search.specs.declared.state.Task.{Task}
-use Rattle.search.specs.declared.state.Finish.{Finish}
-use Rattle.search.specs.declared.state.Finish.the-variants.{Arrived, Emptied, Filled, Stopped}
-use Rattle.search.specs.declared.Answer.the-variants.{Found, NoPlaces, Short}
-use Rattle.search.specs.Layout.{Work, Room, placesIn}
-use Rattle.search.specs.Search.{Ending, searchedFrom}
-use Rattle.search.specs.Whole.{Told, toldOf, Searched, searchedOf, ifInside, written, routeBytes, straightBytes, finished, told, withWork, routed, betweenOf, searchOf}
-use Rattle.search.specs.declared.state.Outcome.the-variants.{Ends}
-use Rattle.search.proofs.Kept.{Arrives, Finishes}
-use Rattle.search.proofs.Begun.{sound-searched}
+use Rattle.machine.specs.declared.Task.{Task}
+use Rattle.machine.specs.declared.Finish.{Finish}
+use Rattle.machine.specs.declared.Finish.the-variants.{Arrived, Emptied, Filled, Stopped}
+use Rattle.writing.specs.declared.Answer.the-variants.{Found, NoPlaces, Short}
+use Rattle.places.specs.Layout.{Work, Room, placesIn}
+use Rattle.machine.specs.Search.{Ending, searchedFrom}
+use Rattle.writing.specs.Told.{Told, toldOf, written, routeBytes, straightBytes, finished, told}
+use Rattle.search.specs.Whole.{Searched, searchedOf, ifInside, withWork, routed, betweenOf, searchOf}
+use Rattle.machine.specs.declared.Outcome.the-variants.{Ends}
+use Rattle.machine.proofs.Kept.{Arrives, Finishes}
+use Rattle.machine.proofs.Begun.{sound-searched}
 use Rattle.search.proofs.Found.{route-is-true, straight-is-true}
 
 -- ---- what is written

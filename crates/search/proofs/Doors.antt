@@ -22,17 +22,18 @@ use Rattle.floor.proofs.Records.{polygon-count}
 use Rattle.floor.proofs.Looked.{question-length}
 use Rattle.floor.proofs.Exact.{floor-exactly}
 use Rattle.steps.specs.Steps.{seedNode}
-use Rattle.search.specs.declared.state.Task.{Task}
-use Rattle.search.specs.declared.Answer.{Answer}
-use Rattle.search.specs.declared.Answer.the-variants.{NoPlaces}
-use Rattle.search.specs.Answers.{refused}
-use Rattle.search.specs.Layout.{Work, Room, placesIn}
-use Rattle.search.specs.Search.{Ending, searchedFrom}
-use Rattle.search.specs.Sound.{Ground}
-use Rattle.search.specs.Whole.{Searched, searchedOf, straightBytes, written, told, routed, betweenOf, askedOf, searchOf}
-use Rattle.search.specs.Writing.{Tells}
-use Rattle.search.proofs.Kept.{Finishes}
-use Rattle.search.proofs.Begun.{sound-searched}
+use Rattle.machine.specs.declared.Task.{Task}
+use Rattle.writing.specs.declared.Answer.{Answer}
+use Rattle.writing.specs.declared.Answer.the-variants.{NoPlaces}
+use Rattle.writing.specs.Answers.{refused}
+use Rattle.places.specs.Layout.{Work, Room, placesIn}
+use Rattle.machine.specs.Search.{Ending, searchedFrom}
+use Rattle.machine.specs.Sound.{Ground}
+use Rattle.writing.specs.Told.{straightBytes, written, told}
+use Rattle.search.specs.Whole.{Searched, searchedOf, routed, betweenOf, askedOf, searchOf}
+use Rattle.writing.specs.Writing.{Tells}
+use Rattle.machine.proofs.Kept.{Finishes}
+use Rattle.machine.proofs.Begun.{sound-searched}
 use Rattle.search.proofs.Telling.{finish-tells}
 
 -- ---- one polygon, or a search
@@ -56,10 +57,6 @@ routes-told vs ps marks t start p budget w g room places listed e s =
     finish-tells vs ps t (seedNode start p) (e .state) (h .sound) (g .some-slots) (g .few-slots) (g .accepted) (e .finish) (h .arrives)
 
 -- ---- how many places
-
-pub places-room : (w : Work) {n : ℕ} → n ≡ placesIn w → Room n w
-unfolding placesIn
-places-room w e = record { floats-room = omega (arith, e); words-room = omega (arith, e); queue-room = omega (arith, e); few = omega (arith, e) }
 
 module _ (slots : ℕ) (f : Floor) (q : Question) (p goal budget : ℕ) (w : Work) (out : List ℕ) {n : ℕ} (places : n ≡ placesIn w) where
   pub between-none : n ≡ 0 → searchedOf NoPlaces w out ≡ betweenOf slots f q p goal budget w out

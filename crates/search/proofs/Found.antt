@@ -17,11 +17,11 @@ use Rattle.route.proofs.Trails.{trail-long}
 use Rattle.steps.specs.declared.Node.{Node}
 use Rattle.steps.specs.Steps.{seedNode}
 use Rattle.steps.specs.World.{endingOf, isInGoal, worldIn}
-use Rattle.search.specs.declared.state.Task.{Task}
-use Rattle.search.specs.Layout.{Work, nodeAt, stepAt, parentAt, depthAt}
-use Rattle.search.specs.Search.{State}
-use Rattle.search.specs.Sound.{Entered, Sound}
-use Rattle.search.specs.Whole.{chainBytes, endAfter, routeBytes, straightBytes}
+use Rattle.machine.specs.declared.Task.{Task}
+use Rattle.places.specs.Layout.{Work, nodeAt, stepAt, parentAt, depthAt}
+use Rattle.machine.specs.Search.{State}
+use Rattle.machine.specs.Sound.{Entered, Sound}
+use Rattle.writing.specs.Told.{chainBytes, endAfter, routeBytes, straightBytes}
 
 module _ (vs ps : List ℕ) (t : Task) (q : Question) (goal : q .goal ≡ t .goal) (p : ℕ) where
   abbrev f : Floor

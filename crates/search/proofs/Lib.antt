@@ -1,18 +1,5 @@
--- The laws of the search.
-pub mod Rows
-pub mod Plus
-pub mod Kept
-pub mod Begun
-pub mod Found
-pub mod Keeping
-pub mod Fitting
-pub mod Parts
-pub mod Looping
-pub mod Counting
-pub mod Stepping
-pub mod Running
-pub mod Written
-pub mod Chaining
+-- The laws of the search from end to end.
 pub mod Telling
 pub mod Doors
+pub mod Found
 pub mod Enough

@@ -8,15 +8,15 @@ use mathlib.Core.List.{List}
 use Rattle.floor.specs.Stored.{floorOf}
 use Rattle.floor.specs.Accepted.{Accepted}
 use Rattle.steps.specs.declared.Node.{Node}
-use Rattle.search.specs.declared.state.Task.{Task}
-use Rattle.search.specs.declared.state.Finish.{Finish}
-use Rattle.search.specs.declared.state.Finish.the-variants.{Arrived, Emptied, Filled, Stopped}
-use Rattle.search.specs.declared.state.Outcome.the-variants.{Ends}
-use Rattle.search.specs.Layout.{Work, depthAt, parentAt}
-use Rattle.search.specs.Search.{State}
-use Rattle.search.specs.Sound.{Sound}
-use Rattle.search.specs.Writing.{Row, Lies, Tellable, Tells}
-use Rattle.search.proofs.Kept.{Arrives}
+use Rattle.machine.specs.declared.Task.{Task}
+use Rattle.machine.specs.declared.Finish.{Finish}
+use Rattle.machine.specs.declared.Finish.the-variants.{Arrived, Emptied, Filled, Stopped}
+use Rattle.machine.specs.declared.Outcome.the-variants.{Ends}
+use Rattle.places.specs.Layout.{Work, depthAt, parentAt}
+use Rattle.machine.specs.Search.{State}
+use Rattle.machine.specs.Sound.{Sound}
+use Rattle.writing.specs.Writing.{Row, Lies, Tellable, Tells}
+use Rattle.machine.proofs.Kept.{Arrives}
 
 module _ (vs ps : List ℕ) (t : Task) (seed : Node) (s : State) (h : Sound vs ps t seed s) where
   abbrev w : Work

@@ -1,7 +1,2 @@
--- What the lent buffers hold, what a search does, and what it answers.
-pub mod Layout
-pub mod Search
-pub mod Sound
-pub mod Answers
+-- The search from end to end.
 pub mod Whole
-pub mod Writing

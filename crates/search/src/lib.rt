@@ -1,67 +1,23 @@
-// The search: nodes in lent buffers, the queue over them, the pop loop, and the route that is written.
+// The search from end to end: the tests, the search, and the route that is written.
 
 ghost use mathlib.Core.Path.{_≡_};
-ghost use Prim.Native.Nat.{_+_, _*_, _/_, _≤_, _<_, min};
+ghost use Prim.Native.Nat.{_*_, _/_, _≤_, _<_};
 ghost use lib.ListN.{length};
 ghost use Rattle.floor.specs.Stored.{floorOf, questionOf};
-ghost use Rattle.search.specs.Layout.{workOf, placesIn, Room};
-ghost use Rattle.search.specs.Answers.{answerNumber};
+ghost use Rattle.places.specs.Layout.{workOf, Room};
+ghost use Rattle.machine.specs.Sound.{Ground};
 ghost use Rattle.search.specs.Whole.{searchedOf, routed, betweenOf, askedOf, searchOf};
-ghost use Rattle.search.specs.Sound.{Ground};
-use crate::machine::search_from;
-use crate::state::Task;
-use crate::writing::tell;
-use crate::writing::write_straight;
 use floor::FloorLook;
 use floor::Look;
-use floor::Refusal;
 use helpers::Point;
+use machine::Task;
+use popping::search_from;
+pub use writing::Answer;
+use writing::tell;
+use writing::write_straight;
 
-mod machine;
-mod making;
-mod places;
-pub mod state;
-mod writing;
-
-// What a search answers. Each but Refused and NoPlaces has the counted steps, which are 0 for those two.
-pub enum Answer {
-    // 0: the route stands in the first so many bytes of the output.
-    Found { steps: usize, bytes: usize },
-    // 1: no route.
-    NotFound { steps: usize },
-    // 2 to 9: the floor or the question was refused.
-    Refused(Refusal),
-    // 10: the lent work buffers hold no node.
-    NoPlaces,
-    // 11: a node needed a place and none was left.
-    Full { steps: usize },
-    // 12: the budget was spent.
-    Spent { steps: usize },
-    // 13: the route is longer than the output.
-    Short { steps: usize },
-}
-
-// The most places that are used, and the steps of a search without a budget.
-pub const MOST_PLACES: usize = 4096;
-
+// The steps of a search without a budget.
 pub const DEFAULT_BUDGET: usize = 4096;
-
-fn lesser(a: usize, b: usize) -> usize
-    ensures { λ r. ⌜ r ≡ min a b ⌝ }
-{
-    if a <= b {
-        return a;
-    }
-    b
-}
-
-// How many nodes the lent work buffers hold.
-pub fn places_in(floats: &[f32], words: &[u32], queue: &[u32]) -> usize
-    ensures { λ r. ⌜ r ≡ placesIn (workOf (now (floats .entry)) (now (words .entry)) (now (queue .entry))) ⌝ }
-{
-    let rows = lesser(floats.len() / places::FLOATS, words.len() / places::WORDS);
-    lesser(lesser(rows, queue.len() / 2), MOST_PLACES)
-}
 
 // From a point in polygon p to the task's goal.
 fn route_from(
@@ -117,7 +73,7 @@ fn route_between(
     requires { ⌜ (length (now question) ≡ 16) × (p < length (now polygons) / 64) ⌝ }
     ensures { λ r. ⌜ searchedOf r (workOf (now (floats .exit)) (now (words .exit)) (now (tree .exit))) (now (out .exit)) ≡ betweenOf 8 (floorOf 8 (now (vertices .entry)) (now (polygons .entry))) (questionOf (now (question .entry))) p q budget (workOf (now (floats .entry)) (now (words .entry)) (now (tree .entry))) (now (out .entry)) ⌝ }
 {
-    let places = places_in(floats, words, tree);
+    let places = places::places_in(floats, words, tree);
     if places == 0 {
         return Answer::NoPlaces;
     }
@@ -231,21 +187,4 @@ pub fn search_default(
         tree,
         out,
     )
-}
-
-impl Answer {
-    // The number in document 01's table.
-    pub fn number(self) -> u32
-        ensures { λ r. ⌜ r ≡ answerNumber self ⌝ }
-    {
-        match self {
-            Answer::Found { steps: _, bytes: _ } => 0,
-            Answer::NotFound { steps: _ } => 1,
-            Answer::Refused(refusal) => refusal.number(),
-            Answer::NoPlaces => 10,
-            Answer::Full { steps: _ } => 11,
-            Answer::Spent { steps: _ } => 12,
-            Answer::Short { steps: _ } => 13,
-        }
-    }
 }

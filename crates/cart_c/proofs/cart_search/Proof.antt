@@ -3,9 +3,9 @@ use Prim.Native.Nat.{ℕ}
 use mathlib.Core.Path.{_≡_, refl, _∙_, ap}
 use mathlib.Core.List.{List}
 use borrow.Author.Needs.{needs}
-use Rattle.search.specs.declared.Answer.{Answer}
-use Rattle.search.specs.Answers.{answerNumber, answerSteps}
-use Rattle.search.specs.Layout.{Work}
+use Rattle.writing.specs.declared.Answer.{Answer}
+use Rattle.writing.specs.Answers.{answerNumber, answerSteps}
+use Rattle.places.specs.Layout.{Work}
 use Rattle.search.specs.Whole.{Searched, searchedOf}
 use Rattle.cart_c.specs.Written.{valueWritten}
 use Rattle.cart_c.specs.Handed.{answerValues, handedOf, handedBy}

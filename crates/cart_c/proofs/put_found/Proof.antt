@@ -2,7 +2,7 @@
 use mathlib.Core.Path.{refl, _∙_, ap}
 use borrow.Author.Needs.{needs}
 use Rattle.says.specs.At.{atOf}
-use Rattle.search.specs.Answers.{answerRecord, answerBytes}
+use Rattle.writing.specs.Answers.{answerRecord, answerBytes}
 use Rattle.cart_c.specs.Written.{recordWritten, valueWritten}
 use Rattle.cart_c.specs.Handed.{answerValues}
 use Rattle.cart_c.proofs.put_found.Statement.{statement}

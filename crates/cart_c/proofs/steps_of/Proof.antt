@@ -1,6 +1,6 @@
 -- `cart_c::steps_of` meets its contract: each arm is the definition's case. Assumes nothing.
 use borrow.Author.Needs.{needs}
-use Rattle.search.specs.Answers.{answerSteps}
+use Rattle.writing.specs.Answers.{answerSteps}
 use Rattle.cart_c.proofs.steps_of.Statement.{statement}
 use Rattle.cart_c.proofs.steps_of.Tie as tie
 

@@ -3,8 +3,9 @@ use borrow.Author.Needs.{needs}
 use denote.Ref.{now}
 use native.Mathlib.Omega.{arith}
 use Rattle.floor.specs.Stored.{floorOf, questionOf}
-use Rattle.search.specs.Layout.{workOf}
-use Rattle.search.proofs.Doors.{places-room, between-none, between-on}
+use Rattle.places.specs.Layout.{workOf}
+use Rattle.places.proofs.Rows.{places-room}
+use Rattle.search.proofs.Doors.{between-none, between-on}
 use Rattle.search.proofs.route_between.Statement.{statement}
 use Rattle.search.proofs.route_between.Tie as tie
 

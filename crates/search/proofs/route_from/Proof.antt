@@ -4,7 +4,7 @@ use denote.Ref.{now}
 use native.Mathlib.Omega.{arith}
 use borrow.Author.Tests.{ne-eqb}
 use Rattle.floor.specs.Stored.{floorOf}
-use Rattle.search.specs.Layout.{workOf}
+use Rattle.places.specs.Layout.{workOf}
 use Rattle.search.proofs.Doors.{routes-straight, routes-search, routes-told}
 use Rattle.search.proofs.route_from.Statement.{statement}
 use Rattle.search.proofs.route_from.Tie as tie

@@ -3,7 +3,7 @@ use borrow.Author.Needs.{needs}
 use denote.Ref.{now}
 use mathlib.Core.Path.{refl}
 use lib.Dec.{lit<, lit≤}
-use Rattle.search.specs.Layout.{workOf}
+use Rattle.places.specs.Layout.{workOf}
 use Rattle.search.proofs.Doors.{ground-of, searches-floor, searches-refused}
 use Rattle.search.proofs.search.Statement.{statement}
 use Rattle.search.proofs.search.Tie as tie

@@ -1,7 +1,7 @@
 -- `search::search_on` meets its contract. Assumes nothing.
 use borrow.Author.Needs.{needs}
 use denote.Ref.{now}
-use Rattle.search.specs.Layout.{workOf}
+use Rattle.places.specs.Layout.{workOf}
 use Rattle.search.proofs.Doors.{start-listed, asks-inside, asks-refused}
 use Rattle.search.proofs.search_on.Statement.{statement}
 use Rattle.search.proofs.search_on.Tie as tie

@@ -1,0 +1,150 @@
+-- The state in which a search begins is sound, and so is the one in which it ends. Rests on specs/Sound. Assumes nothing.
+use Prim.Native.Nat.{ℕ, zero, _+_, _*_, _/_, _≤_, _<_}
+use native.Mathlib.Omega.{arith}
+use mathlib.Core.Path.{_≡_, refl, sym, _∙_, subst}
+use mathlib.Core.Bool.{Bool, true, false, cond}
+use mathlib.Core.List.{List}
+use lib.Dec.{T, eqb}
+use lib.Ieee.{ofBits}
+use Rattle.float.proofs.Tests.{untrue}
+use lib.ListN.{length}
+use Rattle.helpers.specs.declared.point.Point.{Point}
+use Rattle.helpers.specs.Point as point
+use Rattle.floor.specs.Stored.{Floor, floorOf}
+use Rattle.floor.specs.Accepted.{Accepted}
+use Rattle.route.specs.World.{_∈_}
+use Rattle.route.specs.declared.Step.{Step}
+use Rattle.steps.specs.declared.Node.{Node}
+use Rattle.steps.specs.Steps.{stepsFrom, seedNode}
+use Rattle.steps.specs.Going.{Stands}
+use Rattle.steps.proofs.Stands.{seed-stands}
+use Rattle.queue.specs.Queue.{none, Tree}
+use Rattle.queue.proofs.Change.{queued-is, tree-of-own}
+use Rattle.queue.proofs.Lent.{cleared-length, cleared-tree}
+use Rattle.machine.specs.declared.Task.{Task}
+use Rattle.machine.specs.declared.Finish.the-variants.{Filled}
+use Rattle.places.specs.Layout.{Work, Room, nodeAt, depthAt, fAt, isQueued, putFloats, putWords, recordPut}
+use Rattle.machine.specs.Search.{State}
+use Rattle.machine.specs.Search as search
+use Rattle.machine.specs.Sound.{isPlus, Held, Sound}
+use Rattle.places.proofs.Rows.{node-same, node-put, depth-put, put-floats-length, put-words-length, record-length, record-beside}
+use Rattle.machine.proofs.Kept.{Origins, sound-made-all, Finishes, sound-run}
+
+module _ (vs ps : List ℕ) (t : Task) (slots-some : 0 < t .slots) (slots-few : t .slots ≤ 16) (accepted : Accepted (floorOf (t .slots) vs ps)) (vertices : 1 ≤ length vs / 8) (start : Point) (p : ℕ) (listed : p < length ps / (t .slots * 8)) (w : Work) (room : Room (t .places) w) (places : 1 ≤ t .places) where
+  abbrev f : Floor
+  f = floorOf (t .slots) vs ps
+
+  abbrev n : ℕ
+  n = t .places
+
+  abbrev seed : Node
+  seed = seedNode start p
+
+  abbrev first : State
+  first = search.begun f t seed w
+
+  floats-room : (0 + 1) * 11 ≤ length (w .floats)
+  floats-room = omega (arith, room .floats-room, places)
+
+  words-room : (0 + 1) * 7 ≤ length (w .words)
+  words-room = omega (arith, room .words-room, places)
+
+  seeded : eqb 1 1 ≡ seed .seed
+  unfolding seedNode
+  seeded = refl
+
+  its-seed : nodeAt (first .work) 0 ≡ seed
+  unfolding search.begun search.planted
+  its-seed =
+      node-same (recordPut (putFloats (w .floats) 0 seed point.zero) 0 (seed .root) point.zero) (putFloats (w .floats) 0 seed point.zero) 0 (record-beside (putFloats (w .floats) 0 seed point.zero) 0 (seed .root) point.zero 0) (putWords (w .words) 0 1 seed 0 0) (putWords (w .words) 0 1 seed 0 0) (λ k b. refl)
+      ∙ node-put (w .words) 0 1 seed 0 0 words-room (w .floats) point.zero floats-room seeded
+
+  its-depth : depthAt (first .work) 0 ≡ 0
+  unfolding search.begun search.planted
+  its-depth = depth-put (w .words) 0 1 seed 0 0 words-room
+
+  abbrev nothing : ℕ → Bool
+  nothing i = false
+
+  few : n ≤ none
+  few = omega (arith, room .few)
+
+  empty-tree : Tree (fAt (first .work)) n nothing (first .work .queue)
+  unfolding search.begun search.planted
+  empty-tree = cleared-tree (fAt (search.planted f t seed w)) n nothing (w .queue) (room .queue-room) (λ i l. refl)
+
+  none-queued : (i : ℕ) → i < n → isQueued n (first .work) i ≡ false
+  none-queued i l = queued-is (fAt (first .work)) n nothing (first .work .queue) few empty-tree i l
+
+  seed-plus : T (isPlus (seed .length))
+  unfolding seedNode ofBits
+  seed-plus = tt
+
+  seed-points : seed .points ≤ 0
+  unfolding seedNode
+  seed-points = omega arith
+
+  first-room : Room n (first .work)
+  unfolding search.begun search.planted
+  first-room = record {
+    floats-room = rw (record-length (putFloats (w .floats) 0 seed point.zero) 0 (seed .root) point.zero, put-floats-length (w .floats) 0 seed point.zero) (room .floats-room);
+    words-room = rw (put-words-length (w .words) 0 1 seed 0 0) (room .words-room);
+    queue-room = rw (cleared-length (2 * n) (w .queue) (room .queue-room)) (room .queue-room);
+    few = room .few;
+  }
+
+  first-held : Held (t .slots) vs ps (first .work) 0
+  first-held = record {
+    stands = subst (Stands (t .slots) vs ps) (sym its-seed) (seed-stands (t .slots) vs ps slots-some slots-few accepted vertices start p listed);
+    plus = subst (λ (m : Node). T (isPlus (m .length))) (sym its-seed) seed-plus;
+    points-few = rw (its-seed, its-depth) seed-points;
+    depth-few = rw its-depth (omega arith);
+  }
+
+  pub sound-begun : Sound vs ps t seed first
+  unfolding search.begun
+  sound-begun = record {
+    fit = record { room = first-room; records-in = omega arith };
+    some = omega arith;
+    taken-in = places;
+    seed-node = its-seed;
+    seed-depth = its-depth;
+    held = λ i l. subst (Held (t .slots) vs ps (first .work)) (lowest i l) first-held;
+    entered = λ i z l. absurd (omega arith);
+    queue = record {
+      tree = tree-of-own (fAt (first .work)) n nothing (first .work .queue) few empty-tree;
+      below = λ i l q. untrue (sym (none-queued i l) ∙ q);
+      no-nan = λ i l q. untrue (sym (none-queued i l) ∙ q);
+    };
+  }
+    where
+      lowest : (i : ℕ) → i < 1 → 0 ≡ i
+      lowest i l = omega arith
+
+  -- ---- the seed's steps are made, and the search runs
+
+  origins : Origins vs ps t seed first (search.seedOrigin f t seed)
+  unfolding search.seedOrigin search.begun
+  origins = record { place-in = omega arith; node-is = sym its-seed; depth-is = sym its-depth }
+
+  abbrev steps : List Step
+  steps = stepsFrom f (t .polygon) seed
+
+  own : (x : Step) → x ∈ steps → x ∈ stepsFrom f (t .polygon) (search.seedOrigin f t seed .node)
+  unfolding search.seedOrigin
+  own x m = m
+
+  pub sound-seeded : Sound vs ps t seed (search.madeAll f t first (search.seedOrigin f t seed) steps .state)
+  sound-seeded = sound-made-all vs ps t seed slots-some slots-few accepted steps first (search.seedOrigin f t seed) sound-begun origins own .sound
+
+  -- however it ends, what it leaves is sound, and where it arrives is a place in the goal polygon
+  pub sound-searched : (budget : ℕ) → Finishes vs ps t seed slots-some slots-few accepted (search.searchedFrom f t start p budget w)
+  unfolding search.searchedFrom
+  sound-searched budget = go (search.madeAll f t first (search.seedOrigin f t seed) steps .full)
+    where
+      m : search.Making
+      m = search.madeAll f t first (search.seedOrigin f t seed) steps
+
+      go : (b : Bool) → Finishes vs ps t seed slots-some slots-few accepted (cond b (search.ending (m .state) Filled) (search.run f t budget (m .state)))
+      go true = record { sound = sound-seeded; arrives = tt }
+      go false = sound-run vs ps t seed slots-some slots-few accepted budget (m .state) sound-seeded

@@ -1,0 +1,555 @@
+-- What holds of every state of a search is kept by each thing that it does. Rests on specs/Sound. Assumes nothing.
+use Prim.Native.Nat.{ℕ, zero, suc, _+_, _*_, _≤_, _<_}
+use native.Mathlib.Omega.{arith}
+use mathlib.Core.Path.{_≡_, refl, sym, ap, _∙_, subst}
+use mathlib.Core.Bool.{Bool, true, false, not, cond, _||_}
+use mathlib.Core.List.{List, [], _∷_, List·Memᴰ·head, List·Memᴰ·tail}
+use mathlib.Core.Logic.{_⊎_, inl, inr, ⊎-elim}
+use borrow.Author.Tests.{eqb-false, leb-false}
+use lib.Dec.{T, eqb, leb, ltb}
+use lib.Ieee.{Float, binary32, add, isNan}
+use lib.ListN.{length}
+use Rattle.helpers.specs.Point as point
+use Rattle.helpers.specs.Point.{sameOf}
+use Rattle.helpers.specs.Helpers.{heuristicOf}
+use Rattle.walk.specs.declared.SuccessorType.{SuccessorType}
+use Rattle.walk.specs.declared.SuccessorType.the-variants.{LeftNonObservable, Observable, RightNonObservable}
+use Rattle.floor.specs.Stored.{Floor, floorOf}
+use Rattle.floor.specs.Accepted.{Accepted}
+use Rattle.route.specs.declared.Step.{Step}
+use Rattle.route.specs.Step.{kindNumber}
+use Rattle.route.specs.World.{_∈_}
+use Rattle.steps.specs.declared.Node.{Node}
+use Rattle.steps.specs.Steps.{stepsFrom, enter, rootAfter}
+use Rattle.steps.specs.Going.{Stands}
+use Rattle.steps.specs.World.{isInGoal}
+use Rattle.steps.proofs.Stands.{enter-stands}
+use Rattle.queue.specs.Queue.{none, put}
+use Rattle.queue.specs.Words.{queuedIn, placed}
+use Rattle.queue.proofs.Words.{tree-same}
+use Rattle.queue.proofs.Scan.{least-held}
+use Rattle.queue.proofs.Change.{placed-tree, placed-length, placed-queued, put-other, tree-of-own}
+use Rattle.machine.specs.declared.Task.{Task}
+use Rattle.machine.specs.declared.Counts.{Counts}
+use Rattle.machine.specs.declared.Origin.{Origin}
+use Rattle.machine.specs.declared.Finish.the-variants.{Arrived, Emptied, Filled, Stopped}
+use Rattle.machine.specs.declared.Outcome.{Outcome}
+use Rattle.machine.specs.declared.Outcome.the-variants.{Goes, Ends}
+use Rattle.places.specs.Layout.{Work, workOf, wordAt, nodeAt, stepAt, parentAt, depthAt, fAt, isQueued, putNode, recordFor, putRecord, recordPut, putDistance, distancePut, putQueued, leastIn}
+use Rattle.machine.specs.Search.{State, stateOf, tookPlace, tookRecord, counted}
+use Rattle.machine.specs.Search as search
+use Rattle.machine.specs.Sound.{isPlus, Entered, Held, Sound}
+use Rattle.places.proofs.Rows.{SameFloats, SameWords, which, node-same, step-same, f-same, parent-same, depth-same, put-floats-length, put-words-length, floats-elsewhere, words-elsewhere, f-put, node-put, step-put, parent-put, depth-put, record-length, record-beside, distance-length, distance-beside}
+use Rattle.machine.proofs.Plus.{add-plus, add-no-nan, distance-plus, heuristic-plus, plus-if}
+
+module _ (vs ps : List ℕ) (t : Task) (seed : Node) where
+  abbrev f : Floor
+  f = floorOf (t .slots) vs ps
+
+  abbrev n : ℕ
+  n = t .places
+
+  -- ---- places whose rows are the same
+
+  -- the rows of the places below some number are in both buffers alike
+  module _ (new old : Work) (low : ℕ) (fs : (i : ℕ) → i < low → SameFloats (new .floats) (old .floats) i) (ws : (i : ℕ) → i < low → SameWords (new .words) (old .words) i) where
+    node-kept : (i : ℕ) → i < low → nodeAt new i ≡ nodeAt old i
+    node-kept i l = node-same (new .floats) (old .floats) i (fs i l) (new .words) (old .words) (ws i l)
+
+    step-kept : (i : ℕ) → i < low → stepAt new i ≡ stepAt old i
+    step-kept i l = step-same (new .floats) (old .floats) i (fs i l) (new .words) (old .words) (ws i l)
+
+    parent-kept : (i : ℕ) → i < low → parentAt new i ≡ parentAt old i
+    parent-kept i l = parent-same (new .words) (old .words) i (ws i l)
+
+    depth-kept : (i : ℕ) → i < low → depthAt new i ≡ depthAt old i
+    depth-kept i l = depth-same (new .words) (old .words) i (ws i l)
+
+    held-kept : (i : ℕ) → i < low → Held (t .slots) vs ps old i → Held (t .slots) vs ps new i
+    held-kept i l h =
+        let e = node-kept i l in
+        let d = depth-kept i l in
+        record {
+          stands = subst (Stands (t .slots) vs ps) (sym e) (h .stands);
+          plus = subst (λ (m : Node). T (isPlus (m .length))) (sym e) (h .plus);
+          points-few = rw (e, d) (h .points-few);
+          depth-few = rw d (h .depth-few);
+        }
+
+    entered-kept : (i : ℕ) → i < low → Entered f t old i → Entered f t new i
+    entered-kept i l h =
+        let below : parentAt old i < low = omega (arith, h .lower) in
+        record {
+          lower = rw (parent-kept i l) (h .lower);
+          permitted = rw (parent-kept i l, step-kept i l, node-kept (parentAt old i) below) (h .permitted);
+          entered = rw (parent-kept i l, step-kept i l, node-kept i l, node-kept (parentAt old i) below) (h .entered);
+          deeper = rw (parent-kept i l, depth-kept i l, depth-kept (parentAt old i) below) (h .deeper);
+        }
+
+  -- ---- distance records
+
+  -- the floats of the nodes are as they were, the counters agree: nothing else changed
+  sound-beside : (s : State) (floats : List Float) (c : Counts) → Sound vs ps t seed s → ((i : ℕ) → SameFloats floats (s .work .floats) i) → length floats ≡ length (s .work .floats)
+      → c .taken ≡ s .counts .taken → c .records ≤ c .taken → Sound vs ps t seed (stateOf (workOf floats (s .work .words) (s .work .queue)) c)
+  sound-beside s floats c h same long taken few =
+      let new = workOf floats (s .work .words) (s .work .queue) in
+      let held = held-kept new (s .work) (s .counts .taken) (λ i l. same i) (λ i l k b. refl) in
+      let entered = entered-kept new (s .work) (s .counts .taken) (λ i l. same i) (λ i l k b. refl) in
+      let node = node-kept new (s .work) (s .counts .taken) (λ i l. same i) (λ i l k b. refl) in
+      record {
+        fit = record {
+          room = record { floats-room = rw long (h .fit .room .floats-room); words-room = h .fit .room .words-room; queue-room = h .fit .room .queue-room; few = h .fit .room .few };
+          records-in = few;
+        };
+        some = rw taken (h .some);
+        taken-in = rw taken (h .taken-in);
+        seed-node = node 0 (h .some) ∙ h .seed-node;
+        seed-depth = h .seed-depth;
+        held = λ i l. held i (rw taken at l) (h .held i (rw taken at l));
+        entered = λ i z l. entered i (rw taken at l) (h .entered i z (rw taken at l));
+        queue = record {
+          tree = tree-same (fAt (s .work)) (fAt new) n (isQueued n (s .work)) (isQueued n (s .work)) (omega (arith, h .fit .room .few)) (λ i l. refl) (λ i l q. sym (f-same floats (s .work .floats) i (same i))) (s .work .queue) (h .queue .tree);
+          below = λ i l q. rw taken (h .queue .below i l q);
+          no-nan = λ i l q. rw (f-same floats (s .work .floats) i (same i)) (h .queue .no-nan i l q);
+        };
+      }
+
+  pub sound-recorded : (s : State) (node : Node) → Sound vs ps t seed s → s .counts .records < s .counts .taken → Sound vs ps t seed (search.recorded s node)
+  unfolding search.recorded tookRecord
+  sound-recorded s node h room = go (ltb (recordFor (s .work .floats) (s .counts .records) (node .root)) (s .counts .records))
+    where
+      r : ℕ
+      r = recordFor (s .work .floats) (s .counts .records) (node .root)
+
+      go : (b : Bool) → Sound vs ps t seed (cond b (stateOf (putDistance (s .work) r (node .length)) (s .counts)) (stateOf (putRecord (s .work) r (node .root) (node .length)) (tookRecord (s .counts))))
+      go true = sound-beside s (distancePut (s .work .floats) r (node .length)) (s .counts) h (distance-beside (s .work .floats) r (node .length)) (distance-length (s .work .floats) r (node .length)) refl (h .fit .records-in)
+      go false = sound-beside s (recordPut (s .work .floats) r (node .root) (node .length)) (tookRecord (s .counts)) h (record-beside (s .work .floats) r (node .root) (node .length)) (record-length (s .work .floats) r (node .root) (node .length)) refl (omega (arith, room))
+
+  -- ---- the queue
+
+  pub sound-queued : (s : State) (c : Counts) (i : ℕ) (b : Bool) → Sound vs ps t seed s → c .taken ≡ s .counts .taken → c .records ≡ s .counts .records → i < s .counts .taken → T (not (isNan (fAt (s .work) i)))
+      → Sound vs ps t seed (stateOf (putQueued n (s .work) i b) c)
+  sound-queued s c i b h taken records low number = record {
+    fit = record {
+      room = record { floats-room = h .fit .room .floats-room; words-room = h .fit .room .words-room; queue-room = rw (placed-length (fAt (s .work)) n i b (s .work .queue)) (h .fit .room .queue-room); few = h .fit .room .few };
+      records-in = rw (records, taken) (h .fit .records-in);
+    };
+    some = rw taken (h .some);
+    taken-in = rw taken (h .taken-in);
+    seed-node = h .seed-node;
+    seed-depth = h .seed-depth;
+    held = λ j l. held-kept (putQueued n (s .work) i b) (s .work) (s .counts .taken) (λ i l k b. refl) (λ i l k b. refl) j (rw taken at l) (h .held j (rw taken at l));
+    entered = λ j z l. entered-kept (putQueued n (s .work) i b) (s .work) (s .counts .taken) (λ i l k b. refl) (λ i l k b. refl) j (rw taken at l) (h .entered j z (rw taken at l));
+    queue = record {
+      tree = tree-of-own (fAt (s .work)) n (put (isQueued n (s .work)) i b) words few (placed-tree (fAt (s .work)) n (isQueued n (s .work)) i in-places b (s .work .queue) (h .queue .tree));
+      below = λ j l q. rw taken (queued-below j l (which i j) (sym (told j l) ∙ q));
+      no-nan = λ j l q. queued-number j l (which i j) (sym (told j l) ∙ q);
+    };
+  }
+    where
+      words : List ℕ
+      words = placed (fAt (s .work)) n i b (s .work .queue)
+
+      few : n ≤ none
+      few = omega (arith, h .fit .room .few)
+
+      in-places : i < n
+      in-places = omega (arith, low, h .taken-in)
+
+      told : (j : ℕ) → j < n → queuedIn n words j ≡ put (isQueued n (s .work)) i b j
+      told j l = placed-queued (fAt (s .work)) n i b (s .work .queue) few (h .fit .room .queue-room) in-places j l
+
+      queued-below : (j : ℕ) → j < n → (j < i) ⊎ ((j ≡ i) ⊎ (i < j)) → put (isQueued n (s .work)) i b j ≡ true → j < s .counts .taken
+      queued-below j l (inl d) q = omega (arith, d, low)
+      queued-below j l (inr (inl e)) q = omega (arith, e, low)
+      queued-below j l (inr (inr d)) q = h .queue .below j l (sym (put-other (isQueued n (s .work)) i b j (λ e. omega arith)) ∙ q)
+
+      queued-number : (j : ℕ) → j < n → (j < i) ⊎ ((j ≡ i) ⊎ (i < j)) → put (isQueued n (s .work)) i b j ≡ true → T (not (isNan (fAt (s .work) j)))
+      queued-number j l (inl d) q = h .queue .no-nan j l (sym (put-other (isQueued n (s .work)) i b j (λ e. omega arith)) ∙ q)
+      queued-number j l (inr (inl e)) q = subst (λ (m : ℕ). T (not (isNan (fAt (s .work) m)))) (sym e) number
+      queued-number j l (inr (inr d)) q = h .queue .no-nan j l (sym (put-other (isQueued n (s .work)) i b j (λ e. omega arith)) ∙ q)
+
+  -- ---- what stays when more is put
+
+  -- the places that were taken hold what they held
+  pub record Grows (s after : State) : Type 0 where
+    pub more : s .counts .taken ≤ after .counts .taken
+    pub node-as : (i : ℕ) → i < s .counts .taken → nodeAt (after .work) i ≡ nodeAt (s .work) i
+    pub depth-as : (i : ℕ) → i < s .counts .taken → depthAt (after .work) i ≡ depthAt (s .work) i
+
+  grows-self : (s : State) → Grows s s
+  grows-self s = record { more = omega arith; node-as = λ i l. refl; depth-as = λ i l. refl }
+
+  grows-on : (a b c : State) → Grows a b → Grows b c → Grows a c
+  grows-on a b c g h = record {
+    more = omega (arith, g .more, h .more);
+    node-as = λ i l. h .node-as i (omega (arith, l, g .more)) ∙ g .node-as i l;
+    depth-as = λ i l. h .depth-as i (omega (arith, l, g .more)) ∙ g .depth-as i l;
+  }
+
+  module _ (s : State) (node : Node) where
+    abbrev r : ℕ
+    r = recordFor (s .work .floats) (s .counts .records) (node .root)
+
+    recorded-floats : (i : ℕ) → SameFloats (search.recorded s node .work .floats) (s .work .floats) i
+    unfolding search.recorded
+    recorded-floats i = go (ltb r (s .counts .records))
+      where
+        go : (b : Bool) → SameFloats ((cond b (stateOf (putDistance (s .work) r (node .length)) (s .counts)) (stateOf (putRecord (s .work) r (node .root) (node .length)) (tookRecord (s .counts)))) .work .floats) (s .work .floats) i
+        go true = distance-beside (s .work .floats) r (node .length) i
+        go false = record-beside (s .work .floats) r (node .root) (node .length) i
+
+    recorded-words : search.recorded s node .work .words ≡ s .work .words
+    unfolding search.recorded
+    recorded-words = go (ltb r (s .counts .records))
+      where
+        go : (b : Bool) → (cond b (stateOf (putDistance (s .work) r (node .length)) (s .counts)) (stateOf (putRecord (s .work) r (node .root) (node .length)) (tookRecord (s .counts)))) .work .words ≡ s .work .words
+        go true = refl
+        go false = refl
+
+    recorded-taken : search.recorded s node .counts .taken ≡ s .counts .taken
+    unfolding search.recorded tookRecord
+    recorded-taken = go (ltb r (s .counts .records))
+      where
+        go : (b : Bool) → (cond b (stateOf (putDistance (s .work) r (node .length)) (s .counts)) (stateOf (putRecord (s .work) r (node .root) (node .length)) (tookRecord (s .counts)))) .counts .taken ≡ s .counts .taken
+        go true = refl
+        go false = refl
+
+    same-words : (i : ℕ) → SameWords (search.recorded s node .work .words) (s .work .words) i
+    same-words i k b = ap (λ (ws : List ℕ). wordAt ws i k) recorded-words
+
+    grows-recorded : Grows s (search.recorded s node)
+    grows-recorded = record {
+      more = rw recorded-taken (omega arith);
+      node-as = node-kept (search.recorded s node .work) (s .work) (s .counts .taken) (λ i l. recorded-floats i) (λ i l. same-words i);
+      depth-as = depth-kept (search.recorded s node .work) (s .work) (s .counts .taken) (λ i l. recorded-floats i) (λ i l. same-words i);
+    }
+
+  -- ---- a node takes the next place
+
+  -- what the origin of a step is: a place that holds it
+  pub record Origins (s : State) (o : Origin) : Type 0 where
+    pub place-in : o .place < s .counts .taken
+    pub node-is : o .node ≡ nodeAt (s .work) (o .place)
+    pub depth-is : o .depth ≡ depthAt (s .work) (o .place)
+
+  module _ (slots-some : 0 < t .slots) (slots-few : t .slots ≤ 16) (accepted : Accepted f) where
+    module _ (s : State) (o : Origin) (step : Step) (value : Float) (h : Sound vs ps t seed s) (from : Origins s o) (permitted : step ∈ stepsFrom f (t .polygon) (o .node)) (space : s .counts .taken < n) where
+      abbrev node : Node
+      node = enter f (o .node) step
+
+      abbrev kind : ℕ
+      kind = kindNumber (step .kind)
+
+      abbrev i : ℕ
+      i = s .counts .taken
+
+      abbrev new : Work
+      new = putNode (s .work) i kind node value (o .place) (o .depth + 1)
+
+      origin-held : Held (t .slots) vs ps (s .work) (o .place)
+      origin-held = h .held (o .place) (from .place-in)
+
+      node-stands : Stands (t .slots) vs ps node
+      node-stands = enter-stands (t .slots) vs ps slots-some slots-few accepted (t .polygon) (o .node) (subst (Stands (t .slots) vs ps) (sym (from .node-is)) (origin-held .stands)) step permitted
+
+      origin-plus : T (isPlus (o .node .length))
+      origin-plus = subst (λ (m : Node). T (isPlus (m .length))) (sym (from .node-is)) (origin-held .plus)
+
+      pub node-plus : T (isPlus (node .length))
+      unfolding enter
+      node-plus = plus-if (sameOf (rootAfter f (o .node) (step .kind)) (o .node .root)) _ _ origin-plus (add-plus binary32 _ _ origin-plus (distance-plus _ _))
+
+      node-points : node .points ≤ o .node .points + 1
+      unfolding enter
+      node-points = go (sameOf (rootAfter f (o .node) (step .kind)) (o .node .root))
+        where
+          go : (b : Bool) → cond b (o .node .points) (o .node .points + 1) ≤ o .node .points + 1
+          go true = omega arith
+          go false = omega arith
+
+      origin-points : o .node .points ≤ o .depth
+      origin-points = subst (λ (m : Node). m .points ≤ o .depth) (sym (from .node-is)) (subst (λ (d : ℕ). nodeAt (s .work) (o .place) .points ≤ d) (sym (from .depth-is)) (origin-held .points-few))
+
+      origin-depth : o .depth ≤ o .place
+      origin-depth = subst (λ (d : ℕ). d ≤ o .place) (sym (from .depth-is)) (origin-held .depth-few)
+
+      floats-room : (i + 1) * 11 ≤ length (s .work .floats)
+      floats-room = omega (arith, h .fit .room .floats-room, space)
+
+      words-room : (i + 1) * 7 ≤ length (s .work .words)
+      words-room = omega (arith, h .fit .room .words-room, space)
+
+      seed-kind : eqb kind 1 ≡ node .seed
+      unfolding enter kindNumber
+      seed-kind = go (step .kind)
+        where
+          go : (k : SuccessorType) → eqb (kindNumber k) 1 ≡ false
+          go Observable = refl
+          go RightNonObservable = refl
+          go LeftNonObservable = refl
+
+      pub its-node : nodeAt new i ≡ node
+      its-node = node-put (s .work .words) i kind node (o .place) (o .depth + 1) words-room (s .work .floats) value floats-room seed-kind
+
+      its-step : stepAt new i ≡ step
+      unfolding enter
+      its-step = step-put (s .work .words) i kind node (o .place) (o .depth + 1) words-room (s .work .floats) value floats-room step refl refl refl refl refl
+
+      its-parent : parentAt new i ≡ o .place
+      its-parent = parent-put (s .work .words) i kind node (o .place) (o .depth + 1) words-room
+
+      its-depth : depthAt new i ≡ o .depth + 1
+      its-depth = depth-put (s .work .words) i kind node (o .place) (o .depth + 1) words-room
+
+      pub its-f : fAt new i ≡ value
+      its-f = f-put (s .work .floats) i node value floats-room
+
+      floats-below : (j : ℕ) → j < i → SameFloats (new .floats) (s .work .floats) j
+      floats-below j l k b = floats-elsewhere (s .work .floats) i node value j k (omega arith) (inl (λ e. omega arith))
+
+      words-below : (j : ℕ) → j < i → SameWords (new .words) (s .work .words) j
+      words-below j l k b = words-elsewhere (s .work .words) i kind node (o .place) (o .depth + 1) j k b (λ e. omega arith)
+
+      pub node-below : (j : ℕ) → j < i → nodeAt new j ≡ nodeAt (s .work) j
+      node-below = node-kept new (s .work) i floats-below words-below
+
+      pub depth-below : (j : ℕ) → j < i → depthAt new j ≡ depthAt (s .work) j
+      depth-below = depth-kept new (s .work) i floats-below words-below
+
+      new-held : Held (t .slots) vs ps new i
+      new-held = record {
+        stands = subst (Stands (t .slots) vs ps) (sym its-node) node-stands;
+        plus = subst (λ (m : Node). T (isPlus (m .length))) (sym its-node) node-plus;
+        points-few = rw (its-node, its-depth) (omega (arith, node-points, origin-points));
+        depth-few = rw its-depth (omega (arith, origin-depth, from .place-in));
+      }
+
+      new-entered : Entered f t new i
+      new-entered = record {
+        lower = rw its-parent (from .place-in);
+        permitted = rw (its-parent, its-step, node-below (o .place) (from .place-in), ← from .node-is) permitted;
+        entered = rw (its-parent, its-step, its-node, node-below (o .place) (from .place-in), ← from .node-is) refl;
+        deeper = rw (its-parent, its-depth, depth-below (o .place) (from .place-in), ← from .depth-is) refl;
+      }
+
+      f-below : (j : ℕ) → j < i → fAt new j ≡ fAt (s .work) j
+      f-below j l = f-same (new .floats) (s .work .floats) j (floats-below j l)
+
+      pub sound-placed : Sound vs ps t seed (search.placed s o kind node value)
+      unfolding search.placed tookPlace
+      sound-placed = record {
+        fit = record {
+          room = record {
+            floats-room = rw (put-floats-length (s .work .floats) i node value) (h .fit .room .floats-room);
+            words-room = rw (put-words-length (s .work .words) i kind node (o .place) (o .depth + 1)) (h .fit .room .words-room);
+            queue-room = h .fit .room .queue-room;
+            few = h .fit .room .few;
+          };
+          records-in = omega (arith, h .fit .records-in);
+        };
+        some = omega arith;
+        taken-in = omega (arith, space);
+        seed-node = node-below 0 (h .some) ∙ h .seed-node;
+        seed-depth = depth-below 0 (h .some) ∙ h .seed-depth;
+        held = λ j l. held-at j l (which i j);
+        entered = λ j z l. entered-at j z l (which i j);
+        queue = record {
+          tree = tree-same (fAt (s .work)) (fAt new) n (isQueued n (s .work)) (isQueued n (s .work)) (omega (arith, h .fit .room .few)) (λ j l. refl) (λ j l q. sym (f-below j (h .queue .below j l q))) (s .work .queue) (h .queue .tree);
+          below = λ j l q. omega (arith, h .queue .below j l q);
+          no-nan = λ j l q. rw (f-below j (h .queue .below j l q)) (h .queue .no-nan j l q);
+        };
+      }
+        where
+          held-at : (j : ℕ) → j < i + 1 → (j < i) ⊎ ((j ≡ i) ⊎ (i < j)) → Held (t .slots) vs ps new j
+          held-at j l (inl d) = held-kept new (s .work) i floats-below words-below j d (h .held j d)
+          held-at j l (inr (inl e)) = subst (Held (t .slots) vs ps new) (sym e) new-held
+          held-at j l (inr (inr d)) = absurd (omega (arith, l, d))
+
+          entered-at : (j : ℕ) → 0 < j → j < i + 1 → (j < i) ⊎ ((j ≡ i) ⊎ (i < j)) → Entered f t new j
+          entered-at j z l (inl d) = entered-kept new (s .work) i floats-below words-below j d (h .entered j z d)
+          entered-at j z l (inr (inl e)) = subst (Entered f t new) (sym e) new-entered
+          entered-at j z l (inr (inr d)) = absurd (omega (arith, l, d))
+
+      -- ---- it is kept, or dropped
+
+      abbrev put-down : State
+      put-down = search.placed s o kind node value
+
+      abbrev recorded-down : State
+      recorded-down = search.recorded put-down node
+
+      records-left : put-down .counts .records < put-down .counts .taken
+      unfolding search.placed tookPlace
+      records-left = omega (arith, h .fit .records-in)
+
+      taken-down : put-down .counts .taken ≡ i + 1
+      unfolding search.placed tookPlace
+      taken-down = refl
+
+      f-down : fAt (recorded-down .work) i ≡ value
+      unfolding search.placed
+      f-down = f-same (recorded-down .work .floats) (put-down .work .floats) i (recorded-floats put-down node i) ∙ its-f
+
+      pub sound-taken : T (not (isNan value)) → Sound vs ps t seed (search.taken n s o kind node value)
+      unfolding search.taken search.kept search.queued
+      sound-taken number = go (search.isBeaten put-down node)
+        where
+          go : (b : Bool) → Sound vs ps t seed (cond b put-down (stateOf (putQueued n (recorded-down .work) i true) (recorded-down .counts)))
+          go true = sound-placed
+          go false = sound-queued recorded-down (recorded-down .counts) i true (sound-recorded put-down node sound-placed records-left) refl refl (rw (recorded-taken put-down node, taken-down) (omega arith)) (rw f-down number)
+
+      grows-placed : Grows s put-down
+      unfolding search.placed tookPlace
+      grows-placed = record { more = omega arith; node-as = node-below; depth-as = depth-below }
+
+      pub grows-taken : Grows s (search.taken n s o kind node value)
+      unfolding search.taken search.kept search.queued
+      grows-taken = go (search.isBeaten put-down node)
+        where
+          go : (b : Bool) → Grows s (cond b put-down (stateOf (putQueued n (recorded-down .work) i true) (recorded-down .counts)))
+          go true = grows-placed
+          go false = grows-on s recorded-down (stateOf (putQueued n (recorded-down .work) i true) (recorded-down .counts)) (grows-on s put-down recorded-down grows-placed (grows-recorded put-down node)) (record { more = omega arith; node-as = λ j l. refl; depth-as = λ j l. refl })
+
+    -- ---- nodes are made
+
+    made-plus : (s : State) (o : Origin) → Sound vs ps t seed s → Origins s o → T (isPlus (o .node .length))
+    made-plus s o h from = subst (λ (m : Node). T (isPlus (m .length))) (sym (from .node-is)) (h .held (o .place) (from .place-in) .plus)
+
+    -- a state after a step was made, from one that was sound
+    pub record Makes (s : State) (o : Origin) (after : State) : Type 0 where
+      pub sound : Sound vs ps t seed after
+      pub grows : Grows s after
+
+    pub origins-on : (s after : State) (o : Origin) → Grows s after → Origins s o → Origins after o
+    origins-on s after o g from = record {
+      place-in = omega (arith, g .more, from .place-in);
+      node-is = from .node-is ∙ sym (g .node-as (o .place) (from .place-in));
+      depth-is = from .depth-is ∙ sym (g .depth-as (o .place) (from .place-in));
+    }
+
+    pub sound-made : (s : State) (o : Origin) (step : Step) → Sound vs ps t seed s → Origins s o → step ∈ stepsFrom f (t .polygon) (o .node) → Makes s o (search.made f t s o step .state)
+    unfolding search.made
+    sound-made s o step h from permitted = go (isNan (enter f (o .node) step .length)) refl (isNan (heuristicOf (enter f (o .node) step .root) (t .goal) (enter f (o .node) step .interval))) refl (leb n (s .counts .taken)) refl
+      where
+        node' : Node
+        node' = enter f (o .node) step
+
+        value' : Float
+        value' = add binary32 (node' .length) (heuristicOf (node' .root) (t .goal) (node' .interval))
+
+        no : (b : Bool) → b ≡ false → T (not b)
+        no b e = subst (λ (c : Bool). T (not c)) (sym e) tt
+
+        go : (a : Bool) → isNan (node' .length) ≡ a → (b : Bool) → isNan (heuristicOf (node' .root) (t .goal) (node' .interval)) ≡ b → (c : Bool) → leb n (s .counts .taken) ≡ c
+            → Makes s o ((cond (a || b) (search.making s false) (cond c (search.making s true) (search.making (search.taken n s o (kindNumber (step .kind)) node' value') false))) .state)
+        go true x b y c z = record { sound = h; grows = grows-self s }
+        go false x true y c z = record { sound = h; grows = grows-self s }
+        go false x false y true z = record { sound = h; grows = grows-self s }
+        go false x false y false z = record {
+          sound = sound-taken s o step value' h from permitted (leb-false n (s .counts .taken) z) (add-no-nan binary32 _ _ (node-plus s o step value' h from permitted (leb-false n (s .counts .taken) z)) (heuristic-plus _ _ _) (no _ x) (no _ y));
+          grows = grows-taken s o step value' h from permitted (leb-false n (s .counts .taken) z);
+        }
+
+    pub sound-made-all : (steps : List Step) (s : State) (o : Origin) → Sound vs ps t seed s → Origins s o → ((step : Step) → step ∈ steps → step ∈ stepsFrom f (t .polygon) (o .node)) → Makes s o (search.madeAll f t s o steps .state)
+    unfolding search.madeAll
+    sound-made-all [] s o h from permitted = record { sound = h; grows = grows-self s }
+    sound-made-all (step ∷ steps) s o h from permitted =
+        let m = sound-made s o step h from (permitted step (List·Memᴰ·head refl)) in
+        go (search.made f t s o step .full) m (sound-made-all steps (search.made f t s o step .state) o (m .sound) (origins-on s (search.made f t s o step .state) o (m .grows) from) (λ x e. permitted x (List·Memᴰ·tail e)))
+      where
+        go : (b : Bool) → Makes s o (search.made f t s o step .state) → Makes (search.made f t s o step .state) o (search.madeAll f t (search.made f t s o step .state) o steps .state)
+            → Makes s o ((cond b (search.made f t s o step) (search.madeAll f t (search.made f t s o step .state) o steps)) .state)
+        go true m r = m
+        go false m r = record { sound = r .sound; grows = grows-on s (search.made f t s o step .state) (search.madeAll f t (search.made f t s o step .state) o steps .state) (m .grows) (r .grows) }
+
+    -- ---- a step
+
+    pub origin-of : (s : State) (i : ℕ) → i < s .counts .taken → Origins s (search.originAt (s .work) i)
+    unfolding search.originAt
+    origin-of s i l = record { place-in = l; node-is = refl; depth-is = refl }
+
+    -- where a search arrived: a place that is taken, in the goal polygon
+    abbrev pub Arrives : State → Outcome → Type 0
+    Arrives s (Ends (Arrived i)) = (i < s .counts .taken) × (isInGoal (t .polygon) (nodeAt (s .work) i) ≡ true)
+    Arrives s (Ends Emptied) = Unit {0}
+    Arrives s (Ends Filled) = Unit {0}
+    Arrives s (Ends Stopped) = Unit {0}
+    Arrives s Goes = Unit {0}
+
+    pub record Steps (after : search.Stepping) : Type 0 where
+      pub sound : Sound vs ps t seed (after .state)
+      pub arrives : Arrives (after .state) (after .outcome)
+
+    after-making : (m : search.Making) → Sound vs ps t seed (m .state) → Steps (search.afterMaking f t m)
+    after-making m h = go (m .full)
+      where
+        go : (b : Bool) → Steps (cond b (search.stepping (m .state) (Ends Filled)) (search.stepping (m .state) Goes))
+        go true = record { sound = h; arrives = tt }
+        go false = record { sound = h; arrives = tt }
+
+    own-steps : (s : State) (i : ℕ) (x : Step) → x ∈ stepsFrom f (t .polygon) (nodeAt (s .work) i) → x ∈ stepsFrom f (t .polygon) (search.originAt (s .work) i .node)
+    unfolding search.originAt
+    own-steps s i x m = m
+
+    pub sound-visited : (s : State) (i : ℕ) → Sound vs ps t seed s → i < s .counts .taken → Steps (search.visited f t s i)
+    unfolding search.visited
+    sound-visited s i h l = go (search.isBeaten s (nodeAt (s .work) i)) (isInGoal (t .polygon) (nodeAt (s .work) i)) refl
+      where
+        o : Origin
+        o = search.originAt (s .work) i
+
+        steps : List Step
+        steps = stepsFrom f (t .polygon) (nodeAt (s .work) i)
+
+        go : (a b : Bool) → isInGoal (t .polygon) (nodeAt (s .work) i) ≡ b
+            → Steps (cond a (search.stepping s Goes) (cond b (search.stepping s (Ends (Arrived i))) (search.afterMaking f t (search.madeAll f t s o steps))))
+        go true b e = record { sound = h; arrives = tt }
+        go false true e = record { sound = h; arrives = (l, e) }
+        go false false e = after-making (search.madeAll f t s o steps) (sound-made-all steps s o h (origin-of s i l) (own-steps s i) .sound)
+
+    -- the place that is popped is one that is queued, and so taken
+    pub popped-queued : (s : State) → Sound vs ps t seed s → eqb (leastIn n (s .work)) none ≡ false → (leastIn n (s .work) < n) × (isQueued n (s .work) (leastIn n (s .work)) ≡ true)
+    popped-queued s h e = ⊎-elim (λ x. absurd (eqb-false _ _ e x)) (λ x. x) (least-held (fAt (s .work)) n (isQueued n (s .work)) (omega (arith, h .fit .room .few)))
+
+    pub popped-taken : (s : State) → Sound vs ps t seed s → eqb (leastIn n (s .work)) none ≡ false → leastIn n (s .work) < s .counts .taken
+    popped-taken s h e = let q = popped-queued s h e in h .queue .below (leastIn n (s .work)) (q .0) (q .1)
+
+    pub sound-popped : (s : State) → Sound vs ps t seed s → eqb (leastIn n (s .work)) none ≡ false → Sound vs ps t seed (search.popped f t s (leastIn n (s .work)))
+    unfolding search.popped counted
+    sound-popped s h e =
+        let q = popped-queued s h e in
+        sound-queued s (counted (s .counts)) (leastIn n (s .work)) false h refl refl (popped-taken s h e) (h .queue .no-nan (leastIn n (s .work)) (q .0) (q .1))
+
+    popped-below : (s : State) → Sound vs ps t seed s → eqb (leastIn n (s .work)) none ≡ false → leastIn n (s .work) < search.popped f t s (leastIn n (s .work)) .counts .taken
+    unfolding search.popped counted
+    popped-below = popped-taken
+
+    pub sound-step : (s : State) → Sound vs ps t seed s → Steps (search.step f t s)
+    unfolding search.step
+    sound-step s h = go (eqb (leastIn n (s .work)) none) refl
+      where
+        go : (b : Bool) → eqb (leastIn n (s .work)) none ≡ b → Steps (cond b (search.stepping s (Ends Emptied)) (search.visited f t (search.popped f t s (leastIn n (s .work))) (leastIn n (s .work))))
+        go true e = record { sound = h; arrives = tt }
+        go false e = sound-visited (search.popped f t s (leastIn n (s .work))) (leastIn n (s .work)) (sound-popped s h e) (popped-below s h e)
+
+    -- ---- a run
+
+    -- a search that has ended
+    pub record Finishes (e : search.Ending) : Type 0 where
+      pub sound : Sound vs ps t seed (e .state)
+      pub arrives : Arrives (e .state) (Ends (e .finish))
+
+    pub sound-run : (budget : ℕ) (s : State) → Sound vs ps t seed s → Finishes (search.run f t budget s)
+    unfolding search.run
+    sound-run zero s h = go (eqb (leastIn n (s .work)) none)
+      where
+        go : (b : Bool) → Finishes (cond b (search.ending s Emptied) (search.ending s Stopped))
+        go true = record { sound = h; arrives = tt }
+        go false = record { sound = h; arrives = tt }
+    sound-run (suc budget) s h = go (search.step f t s .outcome) (sound-step s h .arrives) (sound-step s h .sound) (sound-run budget)
+      where
+        go : (o : Outcome) → Arrives (search.step f t s .state) o → Sound vs ps t seed (search.step f t s .state) → ((u : State) → Sound vs ps t seed u → Finishes (search.run f t budget u))
+            → Finishes (search.onwards f t (search.step f t s .state) o (search.run f t budget))
+        go Goes a h next = next (search.step f t s .state) h
+        go (Ends finish) a h next = record { sound = h; arrives = a }

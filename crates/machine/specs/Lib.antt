@@ -1,0 +1,3 @@
+-- What a search does, and what holds of every state that it comes through.
+pub mod Search
+pub mod Sound

@@ -1,0 +1,91 @@
+-- What holds of every state that a search comes through: each place below `taken` holds the seed or a node that a permitted step led to from a lower place, and
+-- the queue's words are the tree of some of these places. Below the door the functions ask for it. Definitions only. Assumes nothing.
+use Prim.Native.Nat.{ℕ, _+_, _*_, _/_, _≤_, _<_}
+use mathlib.Core.Path.{_≡_}
+use mathlib.Core.Bool.{Bool, true, not}
+use mathlib.Core.List.{List}
+use lib.Dec.{T}
+use lib.ListN.{length}
+use lib.Ieee.{Float, nan, inf, fin}
+use Rattle.floor.specs.Stored.{Floor, floorOf}
+use Rattle.floor.specs.Accepted.{Accepted}
+use Rattle.floor.specs.Where.{marksOf}
+use Rattle.route.specs.World.{_∈_}
+use Rattle.steps.specs.declared.Node.{Node}
+use Rattle.steps.specs.Steps.{stepsFrom, enter}
+use Rattle.steps.specs.Going.{Stands}
+use Rattle.queue.specs.Queue.{Tree, NoNan}
+use Rattle.machine.specs.declared.Task.{Task}
+use Rattle.machine.specs.declared.Origin.{Origin}
+use Rattle.places.specs.Layout.{Work, Room, nodeAt, stepAt, parentAt, depthAt, fAt, isQueued}
+use Rattle.machine.specs.Search.{State}
+
+-- a float without a minus sign, or NaN
+abbrev pub isPlus : Float → Bool
+isPlus nan = true
+isPlus (inf s) = not s
+isPlus (fin s m e) = not s
+
+-- ---- what is known of the floor
+
+pub record Ground (slots : ℕ) (vertices polygons marks : List ℕ) : Type 0 where
+  pub some-slots : 0 < slots
+  pub few-slots : slots ≤ 16
+  pub accepted : Accepted (floorOf slots vertices polygons)
+  pub some-vertices : 1 ≤ length vertices / 8
+  pub few-vertices : length vertices / 8 ≤ 1024
+  pub few-polygons : length polygons / (slots * 8) ≤ 512
+  pub marked : marks ≡ marksOf (floorOf slots vertices polygons)
+
+-- ---- places
+
+-- a permitted step led to this place
+pub record Entered (f : Floor) (t : Task) (w : Work) (i : ℕ) : Type 0 where
+  pub lower : parentAt w i < i
+  pub permitted : stepAt w i ∈ stepsFrom f (t .polygon) (nodeAt w (parentAt w i))
+  pub entered : nodeAt w i ≡ enter f (nodeAt w (parentAt w i)) (stepAt w i)
+  pub deeper : depthAt w i ≡ depthAt w (parentAt w i) + 1
+
+-- what a place holds, whatever led to it
+pub record Held (slots : ℕ) (vertices polygons : List ℕ) (w : Work) (i : ℕ) : Type 0 where
+  pub stands : Stands slots vertices polygons (nodeAt w i)
+  pub plus : T (isPlus (nodeAt w i .length))
+  pub points-few : nodeAt w i .points ≤ depthAt w i
+  pub depth-few : depthAt w i ≤ i
+
+-- ---- the queue
+
+pub record Queue (n taken : ℕ) (w : Work) : Type 0 where
+  pub tree : Tree (fAt w) n (isQueued n w) (w .queue)
+  pub below : (i : ℕ) → i < n → isQueued n w i ≡ true → i < taken
+  pub no-nan : NoNan (fAt w) n (isQueued n w)
+
+-- ---- states
+
+-- there is room for every place, and no more records than places are taken
+pub record Fit (t : Task) (s : State) : Type 0 where
+  pub room : Room (t .places) (s .work)
+  pub records-in : s .counts .records ≤ s .counts .taken
+
+pub record Sound (vertices polygons : List ℕ) (t : Task) (seed : Node) (s : State) : Type 0 where
+  pub fit : Fit t s
+  pub some : 1 ≤ s .counts .taken
+  pub taken-in : s .counts .taken ≤ t .places
+  pub seed-node : nodeAt (s .work) 0 ≡ seed
+  pub seed-depth : depthAt (s .work) 0 ≡ 0
+  pub held : (i : ℕ) → i < s .counts .taken → Held (t .slots) vertices polygons (s .work) i
+  pub entered : (i : ℕ) → 0 < i → i < s .counts .taken → Entered (floorOf (t .slots) vertices polygons) t (s .work) i
+  pub queue : Queue (t .places) (s .counts .taken) (s .work)
+
+-- from some seed
+pub record SoundFrom (vertices polygons : List ℕ) (t : Task) (s : State) : Type 0 where
+  pub seed : Node
+  pub sound : Sound vertices polygons t seed s
+
+-- ---- where steps are made from
+
+pub record Leaves (vertices polygons : List ℕ) (t : Task) (o : Origin) : Type 0 where
+  pub stands : Stands (t .slots) vertices polygons (o .node)
+  pub place-few : o .place ≤ 4096
+  pub depth-few : o .depth ≤ 4096
+  pub points-few : o .node .points ≤ 4096

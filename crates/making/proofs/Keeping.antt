@@ -1,0 +1,76 @@
+-- What becomes of a node that was made: each way through the code is the definition's. Assumes nothing.
+use Prim.Native.Nat.{ℕ, _+_, _*_, _≤_, _<_}
+use mathlib.Core.Path.{_≡_, refl, _∙_}
+use mathlib.Core.Bool.{true, false}
+use mathlib.Core.List.{List}
+use borrow.Author.Tests.{eq-eqb, lt-ltb, le-ltb, lt-leb, le-leb}
+use lib.Ieee.{Float, nan, inf, fin, up, down, binary32, add, lt, ne, isNan}
+use Rattle.helpers.specs.Helpers.{heuristicOf}
+use Rattle.floor.specs.Stored.{Floor}
+use Rattle.route.specs.declared.Step.{Step}
+use Rattle.route.specs.Step.{kindNumber}
+use Rattle.steps.specs.declared.Node.{Node}
+use Rattle.steps.specs.Steps.{enter}
+use Rattle.queue.specs.Words as tree
+use Rattle.machine.specs.declared.Task.{Task}
+use Rattle.machine.specs.declared.Counts.{Counts}
+use Rattle.machine.specs.declared.Origin.{Origin}
+use Rattle.places.specs.Layout.{workOf, recordFor, recordDistance, recordPut, distancePut, putFloats, putWords}
+use Rattle.machine.specs.Search.{State, stateOf, making, tookPlace, tookRecord, beatenIn, recorded, queued, kept, placed, taken, made}
+
+-- ---- NaN is what differs from itself
+
+pub differs : (x : Float) → ne x x ≡ isNan x
+unfolding ne isNan
+differs nan = refl
+differs (inf true) = refl
+differs (inf false) = refl
+differs (fin true m d) = rw (eq-eqb (m * up d * down d) _ refl)
+differs (fin false m d) = rw (eq-eqb (m * up d * down d) _ refl)
+
+-- ---- kept or dropped
+
+module _ (n : ℕ) (fs : List Float) (ws qs : List ℕ) (counts : Counts) (i : ℕ) (node : Node) {r : ℕ} (found : r ≡ recordFor fs (counts .records) (node .root)) where
+  pub keeps-none : r < counts .records → lt (recordDistance fs r) (node .length) ≡ true → stateOf (workOf fs ws qs) counts ≡ kept n (stateOf (workOf fs ws qs) counts) i node
+  unfolding kept beatenIn
+  keeps-none l less = rw (← found, lt-ltb _ _ l, less)
+
+  pub keeps-record : r < counts .records → lt (recordDistance fs r) (node .length) ≡ false
+      → {fs' : List Float} → fs' ≡ distancePut fs r (node .length) → {qs' : List ℕ} → qs' ≡ tree.placed (tree.column fs' 11 7) n i true qs
+      → stateOf (workOf fs' ws qs') counts ≡ kept n (stateOf (workOf fs ws qs) counts) i node
+  unfolding kept beatenIn recorded queued
+  keeps-record l less f q = rw (q, f, ← found, lt-ltb _ _ l, less)
+
+  pub keeps-new : counts .records ≤ r → {fs' : List Float} → fs' ≡ recordPut fs r (node .root) (node .length) → {qs' : List ℕ} → qs' ≡ tree.placed (tree.column fs' 11 7) n i true qs
+      → stateOf (workOf fs' ws qs') (tookRecord counts) ≡ kept n (stateOf (workOf fs ws qs) counts) i node
+  unfolding kept beatenIn recorded queued
+  keeps-new l f q = rw (q, f, ← found, le-ltb _ _ l)
+
+-- ---- a place is taken
+
+module _ (n : ℕ) (fs : List Float) (ws qs : List ℕ) (counts : Counts) (from : Origin) (kind : ℕ) (node : Node) (f : Float) where
+  pub takes : {fs' : List Float} → fs' ≡ putFloats fs (counts .taken) node f → {ws' : List ℕ} → ws' ≡ putWords ws (counts .taken) kind node (from .place) (from .depth + 1)
+      → {after : State} → after ≡ kept n (stateOf (workOf fs' ws' qs) (tookPlace counts)) (counts .taken) node
+      → after ≡ taken n (stateOf (workOf fs ws qs) counts) from kind node f
+  unfolding taken placed
+  takes f w e = e ∙ rw (f, w)
+
+-- ---- a node is made, or none
+
+module _ (f : Floor) (t : Task) (s : State) (from : Origin) (step : Step) {node : Node} {h : Float} (entered : node ≡ enter f (from .node) step) (guessed : h ≡ heuristicOf (node .root) (t .goal) (node .interval)) where
+  pub makes-none : isNan (node .length) ≡ true → making s false ≡ made f t s from step
+  unfolding made
+  makes-none e = rw (← entered, e)
+
+  pub makes-nothing : isNan (node .length) ≡ false → isNan h ≡ true → making s false ≡ made f t s from step
+  unfolding made
+  makes-nothing e g = rw (← entered, e, ← guessed, g)
+
+  pub makes-full : isNan (node .length) ≡ false → isNan h ≡ false → t .places ≤ s .counts .taken → making s true ≡ made f t s from step
+  unfolding made
+  makes-full e g l = rw (← entered, e, ← guessed, g, le-leb _ _ l)
+
+  pub makes-one : isNan (node .length) ≡ false → isNan h ≡ false → s .counts .taken < t .places → {kind : ℕ} → kind ≡ kindNumber (step .kind)
+      → {after : State} → after ≡ taken (t .places) s from kind node (add binary32 (node .length) h) → making after false ≡ made f t s from step
+  unfolding made
+  makes-one e g l k a = rw (a, k, ← entered, e, ← guessed, g, lt-leb _ _ l)

@@ -1,0 +1,4 @@
+-- The laws of making nodes.
+pub mod Keeping
+pub mod Parts
+pub mod Looping

@@ -1,0 +1,232 @@
+// Making nodes: each permitted step out of a node leads to one, which takes a place and, unless its root was reached by a
+// shorter way, is queued.
+
+use places::F_AT;
+ghost use mathlib.Core.Path.{_≡_};
+ghost use mathlib.Core.Bool.{false};
+ghost use mathlib.Core.List.{List};
+ghost use Prim.Native.Nat.{ℕ, _+_, _*_, _≤_, _<_};
+ghost use lib.Dec.{eqb};
+ghost use lib.ListN.{length};
+ghost use lib.Ieee.{isNan};
+ghost use Rattle.walk.specs.Turns.{isOverOf};
+ghost use Rattle.floor.specs.Stored.{floorOf};
+ghost use Rattle.steps.specs.Steps.{stepOf, stepsFrom};
+ghost use Rattle.steps.specs.View.{viewOf};
+ghost use Rattle.steps.specs.Going.{current, Goes};
+ghost use Rattle.places.specs.Layout.{workOf, Room};
+ghost use Rattle.machine.specs.Search.{stateOf, making, kept, taken, made, madeIf, madeAll};
+ghost use Rattle.machine.specs.Sound.{Ground, Fit, Leaves};
+use machine::Counts;
+use machine::Made;
+use machine::Origin;
+use machine::Task;
+use places::FLOATS;
+use places::put_distance;
+use places::put_floats;
+use places::put_record;
+use places::put_words;
+use places::record_distance;
+use places::record_for;
+use route::Step;
+use steps::Node;
+use steps::going::Going;
+use steps::view::Permitted;
+use steps::view::View;
+
+fn is_nan(x: f32) -> bool
+    ensures { λ r. ⌜ r ≡ isNan x ⌝ }
+{
+    x != x
+}
+
+// Drops the node at place i if its root has a strictly smaller distance on record, else that record becomes its own and
+// the node is queued.
+fn keep(
+    task: Task,
+    counts: Counts,
+    i: usize,
+    node: Node,
+    floats: &mut [f32],
+    tree: &mut [u32],
+) -> Counts
+    requires { ⌜ (task .places * 11 ≤ length (now floats)) × (2 * task .places ≤ length (now tree)) × (task .places ≤ 4096) × (i < task .places) × (counts .records < task .places) ⌝ }
+    ensures { λ r. ⌜ ((ws : List ℕ) → stateOf (workOf (now (floats .exit)) ws (now (tree .exit))) r ≡ kept (task .places) (stateOf (workOf (now (floats .entry)) ws (now (tree .entry))) counts) i node) ⌝ }
+{
+    let records = counts.records;
+    let distance = node.length;
+    let r = record_for(floats, records, node.root);
+    if r < records {
+        if record_distance(floats, r) < distance {
+            return counts;
+        }
+        put_distance(floats, r, distance);
+        queue::push(tree, floats, FLOATS, F_AT, task.places, i);
+        return counts;
+    }
+    put_record(floats, r, node.root, distance);
+    queue::push(tree, floats, FLOATS, F_AT, task.places, i);
+    Counts {
+        taken: counts.taken,
+        records: records + 1,
+        pops: counts.pops,
+    }
+}
+
+// The node takes the next place.
+fn take(
+    task: Task,
+    counts: Counts,
+    from: Origin,
+    kind: u32,
+    node: Node,
+    f: f32,
+    floats: &mut [f32],
+    words: &mut [u32],
+    tree: &mut [u32],
+) -> Counts
+    requires { ⌜ Fit task (stateOf (workOf (now floats) (now words) (now tree)) counts) ⌝ }
+    requires { ⌜ (counts .taken < task .places) × (from .place ≤ 4096) × (from .depth ≤ 4096) ⌝ }
+    ensures { λ r. ⌜ stateOf (workOf (now (floats .exit)) (now (words .exit)) (now (tree .exit))) r ≡ taken (task .places) (stateOf (workOf (now (floats .entry)) (now (words .entry)) (now (tree .entry))) counts) from kind node f ⌝ }
+{
+    let i = counts.taken;
+    put_floats(floats, i, node, f);
+    put_words(words, i, kind, node, from.place as u32, from.depth + 1);
+    let counts = Counts {
+        taken: i + 1,
+        records: counts.records,
+        pops: counts.pops,
+    };
+    keep(task, counts, i, node, floats, tree)
+}
+
+// Makes the node that a step leads to. NaN in its distance or its heuristic makes nothing.
+fn make(
+    vertices: &[u8],
+    polygons: &[u8],
+    task: Task,
+    counts: Counts,
+    from: Origin,
+    step: Step,
+    floats: &mut [f32],
+    words: &mut [u32],
+    tree: &mut [u32],
+) -> Made
+    requires { ⌜ Fit task (stateOf (workOf (now floats) (now words) (now tree)) counts) ⌝ }
+    requires { ⌜ Leaves (now vertices) (now polygons) task from ⌝ }
+    ensures { λ r. ⌜ making (stateOf (workOf (now (floats .exit)) (now (words .exit)) (now (tree .exit))) (r .counts)) (r .full) ≡ made (floorOf (task .slots) (now (vertices .entry)) (now (polygons .entry))) task (stateOf (workOf (now (floats .entry)) (now (words .entry)) (now (tree .entry))) counts) from step ⌝ }
+{
+    let old = from.node;
+    let node = old.enter(vertices, polygons, task.slots, step);
+    let distance = node.length;
+    let heuristic = helpers::heuristic(node.root, task.goal, node.interval);
+    if is_nan(distance) {
+        return Made {
+            counts,
+            full: false,
+        };
+    }
+    if is_nan(heuristic) {
+        return Made {
+            counts,
+            full: false,
+        };
+    }
+    if task.places <= counts.taken {
+        return Made { counts, full: true };
+    }
+    let kind = step.kind;
+    let kind = route::kind_number(kind);
+    let f = distance + heuristic;
+    let counts = take(task, counts, from, kind, node, f, floats, words, tree);
+    Made {
+        counts,
+        full: false,
+    }
+}
+
+// Makes the node behind the part of an edge that is on, if a step leads over it.
+fn make_part(
+    vertices: &[u8],
+    polygons: &[u8],
+    task: Task,
+    counts: Counts,
+    from: Origin,
+    view: View,
+    going: Going,
+    floats: &mut [f32],
+    words: &mut [u32],
+    tree: &mut [u32],
+) -> Made
+    requires { ⌜ Fit task (stateOf (workOf (now floats) (now words) (now tree)) counts) ⌝ }
+    requires { ⌜ Leaves (now vertices) (now polygons) task from ⌝ }
+    requires { ⌜ (view ≡ viewOf (floorOf (task .slots) (now vertices) (now polygons)) (from .node)) × Goes (floorOf (task .slots) (now vertices) (now polygons)) (from .node) going × (isOverOf (going .round) ≡ false) ⌝ }
+    ensures { λ r. ⌜ making (stateOf (workOf (now (floats .exit)) (now (words .exit)) (now (tree .exit))) (r .counts)) (r .full) ≡ madeIf (floorOf (task .slots) (now (vertices .entry)) (now (polygons .entry))) task (stateOf (workOf (now (floats .entry)) (now (words .entry)) (now (tree .entry))) counts) from (stepOf (floorOf (task .slots) (now (vertices .entry)) (now (polygons .entry))) (from .node) (current going)) ⌝ }
+{
+    let edge = going.edge;
+    let part = going.part();
+    match view.step(polygons, task.slots, edge, part) {
+        Permitted::Yes(step) => make(
+            vertices,
+            polygons,
+            task,
+            counts,
+            from,
+            step,
+            floats,
+            words,
+            tree,
+        ),
+        Permitted::No => Made {
+            counts,
+            full: false,
+        },
+    }
+}
+
+// Makes all the steps out of a node, until one finds no place.
+pub fn make_steps(
+    vertices: &[u8],
+    polygons: &[u8],
+    marks: &[u32; 32],
+    task: Task,
+    counts: Counts,
+    from: Origin,
+    floats: &mut [f32],
+    words: &mut [u32],
+    tree: &mut [u32],
+) -> Made
+    requires { ⌜ Fit task (stateOf (workOf (now floats) (now words) (now tree)) counts) ⌝ }
+    requires { ⌜ Leaves (now vertices) (now polygons) task from ⌝ }
+    requires { ⌜ Ground (task .slots) (now vertices) (now polygons) (now marks) × (eqb (from .node .polygon) (task .polygon) ≡ false) ⌝ }
+    ensures { λ r. ⌜ making (stateOf (workOf (now (floats .exit)) (now (words .exit)) (now (tree .exit))) (r .counts)) (r .full) ≡ madeAll (floorOf (task .slots) (now (vertices .entry)) (now (polygons .entry))) task (stateOf (workOf (now (floats .entry)) (now (words .entry)) (now (tree .entry))) counts) from (stepsFrom (floorOf (task .slots) (now (vertices .entry)) (now (polygons .entry))) (task .polygon) (from .node)) ⌝ }
+{
+    let node = from.node;
+    let slots = task.slots;
+    let view = View::new(vertices, polygons, slots, marks, node);
+    let mut going = steps::going::begin(vertices, polygons, slots, node);
+    let mut counts = counts;
+    while !going.is_over() {
+        let made = make_part(
+            vertices,
+            polygons,
+            task,
+            counts,
+            from,
+            view,
+            going,
+            floats,
+            words,
+            tree,
+        );
+        if made.full {
+            return made;
+        }
+        counts = made.counts;
+        going = going.next(vertices, polygons, slots, node);
+    }
+    Made {
+        counts,
+        full: false,
+    }
+}

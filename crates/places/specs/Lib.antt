@@ -1,0 +1,2 @@
+-- Where things lie in the lent buffers.
+pub mod Layout

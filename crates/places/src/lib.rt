@@ -1,0 +1,208 @@
+// Where things lie in the lent buffers. A place is a row of 11 floats and a row of 7 words; beside a node, a row of floats
+// holds one record of a root and its distance. Only these functions know the numbers of the cells.
+
+ghost use mathlib.Core.Path.{_≡_};
+ghost use Prim.Native.Nat.{_+_, _*_, _≤_, _<_, min};
+ghost use lib.ListN.{length};
+ghost use Rattle.places.specs.Layout.{workOf, placesIn, intervalIn, nodeIn, kindOf, stepIn, parentIn, depthIn, putFloats, putWords, recordRoot, recordDistance, recordFor, recordPut, distancePut};
+use helpers::Point;
+use helpers::Segment;
+use route::Step;
+use steps::Node;
+use walk::SuccessorType;
+
+// Floats and words in a row.
+pub const FLOATS: usize = 11;
+
+pub const WORDS: usize = 7;
+
+// The cell of a row of floats in which f stands.
+pub const F_AT: usize = 7;
+
+// The seed's kind; a step's is the number in its record.
+pub const SEED: u32 = 1;
+
+// The most places that are used.
+pub const MOST_PLACES: usize = 4096;
+
+fn lesser(a: usize, b: usize) -> usize
+    ensures { λ r. ⌜ r ≡ min a b ⌝ }
+{
+    if a <= b {
+        return a;
+    }
+    b
+}
+
+// How many nodes the lent work buffers hold.
+pub fn places_in(floats: &[f32], words: &[u32], queue: &[u32]) -> usize
+    ensures { λ r. ⌜ r ≡ placesIn (workOf (now (floats .entry)) (now (words .entry)) (now (queue .entry))) ⌝ }
+{
+    let rows = lesser(floats.len() / FLOATS, words.len() / WORDS);
+    lesser(lesser(rows, queue.len() / 2), MOST_PLACES)
+}
+
+// Stores the floats of the node at place i.
+pub fn put_floats(floats: &mut [f32], i: usize, node: Node, f: f32)
+    requires { ⌜ (i + 1) * 11 ≤ length (now floats) ⌝ }
+    ensures { λ _. ⌜ now (floats .exit) ≡ putFloats (now (floats .entry)) i node f ⌝ }
+{
+    let row = i * FLOATS;
+    let interval = node.interval;
+    let right = interval.0;
+    let left = interval.1;
+    let root = node.root;
+    floats[row + 0] = right.x;
+    floats[row + 1] = right.y;
+    floats[row + 2] = left.x;
+    floats[row + 3] = left.y;
+    floats[row + 4] = root.x;
+    floats[row + 5] = root.y;
+    floats[row + 6] = node.length;
+    floats[row + 7] = f;
+}
+
+// Stores the words of the node at place i: how it was entered, from which place, and after how many steps.
+pub fn put_words(words: &mut [u32], i: usize, kind: u32, node: Node, parent: u32, depth: u32)
+    requires { ⌜ (i + 1) * 7 ≤ length (now words) ⌝ }
+    ensures { λ _. ⌜ now (words .exit) ≡ putWords (now (words .entry)) i kind node parent depth ⌝ }
+{
+    let row = i * WORDS;
+    words[row + 0] = kind;
+    words[row + 1] = node.polygon;
+    words[row + 2] = node.first;
+    words[row + 3] = node.second;
+    words[row + 4] = parent;
+    words[row + 5] = node.points;
+    words[row + 6] = depth;
+}
+
+// The interval of the node at place i.
+fn interval_at(floats: &[f32], i: usize) -> Segment
+    requires { ⌜ (i + 1) * 11 ≤ length (now floats) ⌝ }
+    ensures { λ r. ⌜ r ≡ intervalIn (now (floats .entry)) i ⌝ }
+{
+    let row = i * FLOATS;
+    let right = Point::new(floats[row + 0], floats[row + 1]);
+    let left = Point::new(floats[row + 2], floats[row + 3]);
+    Segment(right, left)
+}
+
+// The node at place i.
+pub fn node_at(floats: &[f32], words: &[u32], i: usize) -> Node
+    requires { ⌜ ((i + 1) * 11 ≤ length (now floats)) × ((i + 1) * 7 ≤ length (now words)) ⌝ }
+    ensures { λ r. ⌜ r ≡ nodeIn (now (floats .entry)) (now (words .entry)) i ⌝ }
+{
+    let interval = interval_at(floats, i);
+    let row = i * FLOATS;
+    let root = Point::new(floats[row + 4], floats[row + 5]);
+    let length = floats[row + 6];
+    let row = i * WORDS;
+    Node {
+        seed: words[row + 0] == SEED,
+        polygon: words[row + 1],
+        first: words[row + 2],
+        second: words[row + 3],
+        interval,
+        root,
+        length,
+        points: words[row + 5],
+    }
+}
+
+// A step's kind from its number.
+fn kind_of(number: u32) -> SuccessorType
+    ensures { λ r. ⌜ r ≡ kindOf number ⌝ }
+{
+    if number == 2 {
+        return SuccessorType::Observable;
+    }
+    if number == 3 {
+        return SuccessorType::RightNonObservable;
+    }
+    SuccessorType::LeftNonObservable
+}
+
+// The step by which the node at place i was entered.
+pub fn step_at(floats: &[f32], words: &[u32], i: usize) -> Step
+    requires { ⌜ ((i + 1) * 11 ≤ length (now floats)) × ((i + 1) * 7 ≤ length (now words)) ⌝ }
+    ensures { λ r. ⌜ r ≡ stepIn (now (floats .entry)) (now (words .entry)) i ⌝ }
+{
+    let interval = interval_at(floats, i);
+    let row = i * WORDS;
+    let kind = kind_of(words[row + 0]);
+    Step {
+        kind,
+        polygon: words[row + 1],
+        first: words[row + 2],
+        second: words[row + 3],
+        interval,
+    }
+}
+
+// The place from which the node at place i was entered.
+pub fn parent_at(words: &[u32], i: usize) -> u32
+    requires { ⌜ (i + 1) * 7 ≤ length (now words) ⌝ }
+    ensures { λ r. ⌜ r ≡ parentIn (now (words .entry)) i ⌝ }
+{
+    words[i * WORDS + 4]
+}
+
+// How many steps led to the node at place i.
+pub fn depth_at(words: &[u32], i: usize) -> u32
+    requires { ⌜ (i + 1) * 7 ≤ length (now words) ⌝ }
+    ensures { λ r. ⌜ r ≡ depthIn (now (words .entry)) i ⌝ }
+{
+    words[i * WORDS + 6]
+}
+
+// The root of record r.
+fn record_root(floats: &[f32], r: usize) -> Point
+    requires { ⌜ (r + 1) * 11 ≤ length (now floats) ⌝ }
+    ensures { λ a. ⌜ a ≡ recordRoot (now (floats .entry)) r ⌝ }
+{
+    let row = r * FLOATS;
+    Point::new(floats[row + 8], floats[row + 9])
+}
+
+// The distance of record r.
+pub fn record_distance(floats: &[f32], r: usize) -> f32
+    requires { ⌜ (r + 1) * 11 ≤ length (now floats) ⌝ }
+    ensures { λ a. ⌜ a ≡ recordDistance (now (floats .entry)) r ⌝ }
+{
+    floats[r * FLOATS + 10]
+}
+
+// The first of so many records whose root is this one by ==, or their number.
+pub fn record_for(floats: &[f32], records: usize, root: Point) -> usize
+    requires { ⌜ records * 11 ≤ length (now floats) ⌝ }
+    ensures { λ a. ⌜ a ≡ recordFor (now (floats .entry)) records root ⌝ }
+{
+    let mut r = 0;
+    while r < records {
+        if record_root(floats, r).same(root) {
+            return r;
+        }
+        r += 1;
+    }
+    r
+}
+
+// Makes record r.
+pub fn put_record(floats: &mut [f32], r: usize, root: Point, distance: f32)
+    requires { ⌜ (r + 1) * 11 ≤ length (now floats) ⌝ }
+    ensures { λ _. ⌜ now (floats .exit) ≡ recordPut (now (floats .entry)) r root distance ⌝ }
+{
+    let row = r * FLOATS;
+    floats[row + 8] = root.x;
+    floats[row + 9] = root.y;
+    floats[row + 10] = distance;
+}
+
+// Changes the distance of record r.
+pub fn put_distance(floats: &mut [f32], r: usize, distance: f32)
+    requires { ⌜ (r + 1) * 11 ≤ length (now floats) ⌝ }
+    ensures { λ _. ⌜ now (floats .exit) ≡ distancePut (now (floats .entry)) r distance ⌝ }
+{
+    floats[r * FLOATS + 10] = distance;
+}

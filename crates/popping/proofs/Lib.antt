@@ -1,0 +1,3 @@
+-- The laws of the pop loop.
+pub mod Stepping
+pub mod Running

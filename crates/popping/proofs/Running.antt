@@ -1,0 +1,133 @@
+-- A run, step by step: what was to be run is what is left to be run. Assumes nothing.
+use Prim.Native.Nat.{ℕ, suc, _+_, _-_, _*_, _/_, _≤_, _<_}
+use native.Mathlib.Omega.{arith}
+use mathlib.Core.Path.{_≡_, refl, sym, ap, _∙_, subst}
+use mathlib.Core.Bool.{true, false}
+use mathlib.Core.List.{List}
+use borrow.Author.Tests.{eq-eqb, ne-eqb}
+use lib.Dec.{eqb}
+use lib.ListN.{length}
+use Rattle.helpers.specs.declared.point.Point.{Point}
+use Rattle.floor.specs.Stored.{Floor, floorOf}
+use Rattle.steps.specs.declared.Node.{Node}
+use Rattle.steps.specs.Steps.{stepsFrom, seedNode}
+use Rattle.steps.proofs.Stands.{seed-stands}
+use Rattle.queue.specs.Queue.{none}
+use Rattle.machine.specs.declared.Task.{Task}
+use Rattle.machine.specs.declared.Origin.{Origin}
+use Rattle.machine.specs.declared.Finish.{Finish}
+use Rattle.machine.specs.declared.Finish.the-variants.{Emptied, Filled, Stopped}
+use Rattle.machine.specs.declared.Outcome.{Outcome}
+use Rattle.machine.specs.declared.Outcome.the-variants.{Goes, Ends}
+use Rattle.places.specs.Layout.{Work, Room, leastIn}
+use Rattle.machine.specs.Search.{State, stateOf, Making, Stepping, Ending, ending, madeAll, step, onwards, run, planted, begun, seedOrigin, searchedFrom}
+use Rattle.machine.specs.Sound.{Ground, Fit, Sound, SoundFrom, Leaves}
+use Rattle.machine.proofs.Kept.{sound-step}
+use Rattle.machine.proofs.Begun.{sound-begun, sound-seeded}
+use Rattle.making.proofs.Looping.{AsLong}
+use Rattle.machine.proofs.Counting.{pops-made-all, pops-step}
+
+pub record Runs (vs ps : List ℕ) (t : Task) (budget : ℕ) (was at : State) (left : ℕ) : Type 0 where
+  pub sound : SoundFrom vs ps t at
+  pub long : AsLong at was
+  pub count : at .counts .pops + left ≤ was .counts .pops + budget
+  pub rest : run (floorOf (t .slots) vs ps) t budget was ≡ run (floorOf (t .slots) vs ps) t left at
+
+pub runs-begin : (vs ps : List ℕ) (t : Task) (budget : ℕ) (was : State) → SoundFrom vs ps t was → Runs vs ps t budget was was budget
+runs-begin vs ps t budget was h = record { sound = h; long = record { floats-long = refl; words-long = refl; queue-long = refl }; count = omega arith; rest = refl }
+
+module _ (vs ps marks : List ℕ) (t : Task) (budget : ℕ) (was at : State) (left : ℕ) (g : Ground (t .slots) vs ps marks) (r : Runs vs ps t budget was at left) where
+  abbrev f : Floor
+  f = floorOf (t .slots) vs ps
+
+  module _ (some : 0 < left) (st : Stepping) (stepped : st ≡ step f t at) where
+    turned : run f t budget was ≡ onwards f t (st .state) (st .outcome) (run f t (left - 1))
+    unfolding run
+    turned =
+        let e : left ≡ suc (left - 1) = omega arith in
+        r .rest ∙ ap (λ (k : ℕ). run f t k at) e ∙ ap (λ (x : Stepping). onwards f t (x .state) (x .outcome) (run f t (left - 1))) (sym stepped)
+
+    pub runs-ends : {finish : Finish} → st .outcome ≡ Ends finish → ending (st .state) finish ≡ run f t budget was
+    runs-ends e = sym (turned ∙ ap (λ (o : Outcome). onwards f t (st .state) o (run f t (left - 1))) e)
+
+    pub runs-next : st .outcome ≡ Goes → AsLong (st .state) at → Runs vs ps t budget was (st .state) (left - 1)
+    runs-next e long = record {
+      sound = record { seed = r .sound .seed; sound = subst (λ (x : Stepping). Sound vs ps t (r .sound .seed) (x .state)) (sym stepped) (sound-step vs ps t (r .sound .seed) (g .some-slots) (g .few-slots) (g .accepted) at (r .sound .sound) .sound) };
+      long = record {
+        floats-long = long .floats-long ∙ r .long .floats-long;
+        words-long = long .words-long ∙ r .long .words-long;
+        queue-long = long .queue-long ∙ r .long .queue-long;
+      };
+      count = let p = rw (← stepped) at (pops-step f t at) in omega (arith, p, r .count, some);
+      rest = turned ∙ ap (λ (o : Outcome). onwards f t (st .state) o (run f t (left - 1))) e;
+    }
+
+  module _ (over : left ≤ 0) {w : ℕ} (least : w ≡ leastIn (t .places) (at .work)) where
+    at-end : run f t budget was ≡ run f t 0 at
+    at-end = let e : left ≡ 0 = omega arith in r .rest ∙ ap (λ (k : ℕ). run f t k at) e
+
+    pub runs-empty : w ≡ none → ending at Emptied ≡ run f t budget was
+    unfolding run
+    runs-empty e = sym (at-end ∙ rw (← least, eq-eqb _ _ e))
+
+    pub runs-out : (w ≡ none → ⊥) → ending at Stopped ≡ run f t budget was
+    unfolding run
+    runs-out e = sym (at-end ∙ rw (← least, ne-eqb _ _ e))
+
+-- ---- a search begins
+
+abbrev pub firstOf : Work → State
+firstOf w = stateOf w (record { taken = 1; records = 1; pops = 0 })
+
+abbrev pub leavesSeed : Node → Origin
+leavesSeed seed = record { place = 0; depth = 0; node = seed }
+
+module _ (vs ps marks : List ℕ) (t : Task) (start : Point) (p : ℕ) (was : Work) (g : Ground (t .slots) vs ps marks) (room : Room (t .places) was) (places : 1 ≤ t .places) (listed : p < length ps / (t .slots * 8)) (apart : eqb p (t .polygon) ≡ false)
+    {seed : Node} (seeded : seed ≡ seedNode start p) {w : Work} (grown : w ≡ planted (floorOf (t .slots) vs ps) t seed was) where
+  abbrev ground : Floor
+  ground = floorOf (t .slots) vs ps
+
+  first-is : firstOf w ≡ begun ground t (seedNode start p) was
+  unfolding begun
+  first-is = rw (grown, seeded)
+
+  first-sound : Sound vs ps t (seedNode start p) (firstOf w)
+  first-sound = subst (Sound vs ps t (seedNode start p)) (sym first-is) (sound-begun vs ps t (g .some-slots) (g .few-slots) (g .accepted) (g .some-vertices) start p listed was room places)
+
+  pub first-fit : Fit t (firstOf w)
+  first-fit = first-sound .fit
+
+  pub first-leaves : Leaves vs ps t (leavesSeed seed)
+  unfolding seedNode
+  first-leaves = rw seeded (record {
+    stands = seed-stands (t .slots) vs ps (g .some-slots) (g .few-slots) (g .accepted) (g .some-vertices) start p listed;
+    place-few = omega arith;
+    depth-few = omega arith;
+    points-few = omega arith;
+  })
+
+  pub first-apart : eqb (seed .polygon) (t .polygon) ≡ false
+  unfolding seedNode
+  first-apart = rw seeded apart
+
+  module _ (m : Making) (made : m ≡ madeAll ground t (firstOf w) (leavesSeed seed) (stepsFrom ground (t .polygon) seed)) where
+    made-is : m ≡ madeAll ground t (begun ground t (seedNode start p) was) (seedOrigin ground t (seedNode start p)) (stepsFrom ground (t .polygon) (seedNode start p))
+    unfolding seedOrigin
+    made-is = made ∙ rw (first-is, seeded)
+
+    pub made-sound : SoundFrom vs ps t (m .state)
+    made-sound = record {
+      seed = seedNode start p;
+      sound = subst (λ (x : Making). Sound vs ps t (seedNode start p) (x .state)) (sym made-is) (sound-seeded vs ps t (g .some-slots) (g .few-slots) (g .accepted) (g .some-vertices) start p listed was room places);
+    }
+
+    pub made-uncounted : m .state .counts .pops ≡ 0
+    made-uncounted = ap (λ (x : Making). x .state .counts .pops) made ∙ pops-made-all ground t (stepsFrom ground (t .polygon) seed) (firstOf w) (leavesSeed seed)
+
+    pub searches-full : (budget : ℕ) → m .full ≡ true → ending (m .state) Filled ≡ searchedFrom ground t start p budget was
+    unfolding searchedFrom
+    searches-full budget e = rw (← made-is, e)
+
+    pub searches-on : (budget : ℕ) → m .full ≡ false → {e : Ending} → e ≡ run ground t budget (m .state) → e ≡ searchedFrom ground t start p budget was
+    unfolding searchedFrom
+    searches-on budget full e = e ∙ rw (← made-is, full)

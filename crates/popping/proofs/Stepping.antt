@@ -1,0 +1,91 @@
+-- A step and a run: each way through the code is the definition's, and what it asks for is there. Assumes nothing.
+use Prim.Native.Nat.{ℕ, _-_, _≤_, _<_}
+use native.Mathlib.Omega.{arith}
+use mathlib.Core.Path.{_≡_, sym, _∙_, subst}
+use mathlib.Core.Bool.{Bool, true, false}
+use mathlib.Core.List.{List}
+use borrow.Author.Tests.{eq-eqb, ne-eqb}
+use lib.Dec.{eqb}
+use lib.Ieee.{Float}
+use Rattle.floor.specs.Stored.{Floor}
+use Rattle.steps.specs.declared.Node.{Node}
+use Rattle.steps.specs.Steps.{stepsFrom}
+use Rattle.steps.specs.World.{isInGoal}
+use Rattle.queue.specs.Queue.{none, leastOf, NoNan, Tree}
+use Rattle.queue.specs.Words as tree
+use Rattle.machine.specs.declared.Task.{Task}
+use Rattle.machine.specs.declared.Counts.{Counts}
+use Rattle.machine.specs.declared.Finish.the-variants.{Arrived, Emptied, Filled}
+use Rattle.machine.specs.declared.Outcome.the-variants.{Goes, Ends}
+use Rattle.places.specs.Layout.{workOf, nodeAt, depthAt, fAt, isQueued, leastIn}
+use Rattle.machine.specs.Search.{State, stateOf, Making, Stepping, stepping, counted, beatenIn, originAt, madeAll, visited, popped, step}
+use Rattle.machine.specs.Sound.{Ground, SoundFrom, Leaves}
+use Rattle.machine.proofs.Kept.{popped-queued, popped-taken, sound-popped}
+
+-- ---- a node that was popped
+
+module _ (f : Floor) (t : Task) (s : State) (i : ℕ) {node : Node} (read : node ≡ nodeAt (s .work) i) {b : Bool} (beaten : b ≡ beatenIn (s .work .floats) (s .counts .records) node) where
+  pub visits-beaten : b ≡ true → stepping s Goes ≡ visited f t s i
+  unfolding visited
+  visits-beaten e = rw (← read, ← beaten, e)
+
+  pub visits-goal : b ≡ false → node .polygon ≡ t .polygon → stepping s (Ends (Arrived i)) ≡ visited f t s i
+  unfolding visited isInGoal
+  visits-goal e g = rw (← read, ← beaten, e, eq-eqb _ _ g)
+
+  module _ (e : b ≡ false) (g : node .polygon ≡ t .polygon → ⊥) {depth : ℕ} (deep : depth ≡ depthAt (s .work) i) (m : Making)
+      (made : m ≡ madeAll f t s (record { place = i; depth = depth; node = node }) (stepsFrom f (t .polygon) node)) where
+    pub visits-full : m .full ≡ true → stepping (m .state) (Ends Filled) ≡ visited f t s i
+    unfolding visited isInGoal originAt
+    visits-full full = rw (← read, ← beaten, e, ne-eqb _ _ g, ← deep, ← made, full)
+
+    pub visits-on : m .full ≡ false → stepping (m .state) Goes ≡ visited f t s i
+    unfolding visited isInGoal originAt
+    visits-on full = rw (← read, ← beaten, e, ne-eqb _ _ g, ← deep, ← made, full)
+
+-- what its steps are made from
+pub leaves-of : (vs ps : List ℕ) (t : Task) (s : State) (i : ℕ) → SoundFrom vs ps t s → i < s .counts .taken → {node : Node} → node ≡ nodeAt (s .work) i → {depth : ℕ} → depth ≡ depthAt (s .work) i
+    → Leaves vs ps t (record { place = i; depth = depth; node = node })
+leaves-of vs ps t s i h l {node} n {depth} d =
+    let held = h .sound .held i l in
+    let most = h .sound .fit .room .few in
+    let inside = h .sound .taken-in in
+    subst (λ (m : Node). Leaves vs ps t (record { place = i; depth = depth; node = m })) (sym n)
+    (record { stands = held .stands; place-few = omega (arith, l, inside, most); depth-few = omega (arith, d, held .depth-few, l, inside, most); points-few = omega (arith, held .points-few, held .depth-few, l, inside, most) })
+
+-- ---- a step
+
+-- the word that the tree gives is the least
+pub least-is : (vs ps : List ℕ) (t : Task) (fs : List Float) (ws qs : List ℕ) (counts : Counts) → SoundFrom vs ps t (stateOf (workOf fs ws qs) counts) → {w : ℕ}
+    → ((f : ℕ → Float) (n : ℕ) (q : ℕ → Bool) → 0 < n → n ≤ none → NoNan f n q → Tree f n q qs → w ≡ leastOf f n q) → w ≡ leastIn (t .places) (workOf fs ws qs)
+least-is vs ps t fs ws qs counts h least =
+    let sound = h .sound in
+    least (fAt (workOf fs ws qs)) (t .places) (isQueued (t .places) (workOf fs ws qs)) (omega (arith, sound .some, sound .taken-in)) (omega (arith, sound .fit .room .few)) (sound .queue .no-nan) (sound .queue .tree)
+
+module _ (f : Floor) (t : Task) (fs : List Float) (ws qs : List ℕ) (counts : Counts) {w : ℕ} (least : w ≡ leastIn (t .places) (workOf fs ws qs)) where
+  pub turns-empty : w ≡ none → stepping (stateOf (workOf fs ws qs) counts) (Ends Emptied) ≡ step f t (stateOf (workOf fs ws qs) counts)
+  unfolding step
+  turns-empty e = rw (← least, eq-eqb _ _ e)
+
+  pub turns-on : (w ≡ none → ⊥) → {qs' : List ℕ} → qs' ≡ tree.placed (tree.column fs 11 7) (t .places) w false qs → {after : Stepping} → after ≡ visited f t (stateOf (workOf fs ws qs') (counted counts)) w
+      → after ≡ step f t (stateOf (workOf fs ws qs) counts)
+  unfolding step popped
+  turns-on e q a = a ∙ rw (← least, ne-eqb _ _ e, q)
+
+module _ (vs ps marks : List ℕ) (t : Task) (fs : List Float) (ws qs : List ℕ) (counts : Counts) (g : Ground (t .slots) vs ps marks) (h : SoundFrom vs ps t (stateOf (workOf fs ws qs) counts))
+    {w : ℕ} (least : w ≡ leastIn (t .places) (workOf fs ws qs)) (some : w ≡ none → ⊥) where
+  queue-full : eqb (leastIn (t .places) (workOf fs ws qs)) none ≡ false
+  queue-full = rw least at (ne-eqb w none some)
+
+  pub popped-in : w < t .places
+  popped-in = rw least (popped-queued vs ps t (h .seed) (g .some-slots) (g .few-slots) (g .accepted) (stateOf (workOf fs ws qs) counts) (h .sound) queue-full .0)
+
+  pub popped-low : w < counts .taken
+  popped-low = rw least (popped-taken vs ps t (h .seed) (g .some-slots) (g .few-slots) (g .accepted) (stateOf (workOf fs ws qs) counts) (h .sound) queue-full)
+
+  pub popped-sound : {qs' : List ℕ} → qs' ≡ tree.placed (tree.column fs 11 7) (t .places) w false qs → SoundFrom vs ps t (stateOf (workOf fs ws qs') (counted counts))
+  unfolding popped
+  popped-sound q = record {
+    seed = h .seed;
+    sound = rw (q, least) (sound-popped vs ps t (h .seed) (g .some-slots) (g .few-slots) (g .accepted) (stateOf (workOf fs ws qs) counts) (h .sound) queue-full);
+  }

@@ -1,0 +1,258 @@
+// The search as steps: each pops the least node, and either arrives, or makes that node's steps.
+
+use making::make_steps;
+use places::F_AT;
+ghost use mathlib.Core.Path.{_≡_};
+ghost use mathlib.Core.Bool.{false};
+ghost use Prim.Native.Nat.{ℕ, _+_, _*_, _/_, _≤_, _<_, _^_};
+ghost use lib.Dec.{eqb};
+ghost use lib.ListN.{length};
+ghost use Rattle.floor.specs.Stored.{Floor, floorOf};
+ghost use Rattle.places.specs.Layout.{workOf, Room};
+ghost use Rattle.machine.specs.Search.{stateOf, stepping, ending, beatenIn, visited, step, run, planted, searchedFrom};
+ghost use Rattle.machine.specs.Sound.{Ground, SoundFrom};
+use helpers::Point;
+use machine::Counts;
+use machine::Ended;
+use machine::Finish;
+use machine::Origin;
+use machine::Outcome;
+use machine::Stepped;
+use machine::Task;
+use places::FLOATS;
+use places::SEED;
+use places::depth_at;
+use places::node_at;
+use places::put_floats;
+use places::put_record;
+use places::put_words;
+use places::record_distance;
+use places::record_for;
+use queue::NONE;
+use steps::Node;
+
+// Whether the root of a node has a strictly smaller distance on record than the node's.
+fn is_beaten(floats: &[f32], records: usize, node: Node) -> bool
+    requires { ⌜ records * 11 ≤ length (now floats) ⌝ }
+    ensures { λ r. ⌜ r ≡ beatenIn (now (floats .entry)) records node ⌝ }
+{
+    let r = record_for(floats, records, node.root);
+    if r < records {
+        return record_distance(floats, r) < node.length;
+    }
+    false
+}
+
+// Looks at the node that was popped: it is dropped, or it has arrived, or its steps are made.
+fn visit(
+    vertices: &[u8],
+    polygons: &[u8],
+    marks: &[u32; 32],
+    task: Task,
+    counts: Counts,
+    i: usize,
+    floats: &mut [f32],
+    words: &mut [u32],
+    tree: &mut [u32],
+) -> Stepped
+    requires { ⌜ Ground (task .slots) (now vertices) (now polygons) (now marks) ⌝ }
+    requires { ⌜ SoundFrom (now vertices) (now polygons) task (stateOf (workOf (now floats) (now words) (now tree)) counts) ⌝ }
+    requires { ⌜ i < counts .taken ⌝ }
+    ensures { λ r. ⌜ stepping (stateOf (workOf (now (floats .exit)) (now (words .exit)) (now (tree .exit))) (r .counts)) (r .outcome) ≡ visited (floorOf (task .slots) (now (vertices .entry)) (now (polygons .entry))) task (stateOf (workOf (now (floats .entry)) (now (words .entry)) (now (tree .entry))) counts) i ⌝ }
+{
+    let node = node_at(floats, words, i);
+    if is_beaten(floats, counts.records, node) {
+        return Stepped {
+            counts,
+            outcome: Outcome::Goes,
+        };
+    }
+    if node.polygon as usize == task.polygon {
+        return Stepped {
+            counts,
+            outcome: Outcome::Ends(Finish::Arrived(i)),
+        };
+    }
+    let from = Origin {
+        place: i,
+        depth: depth_at(words, i),
+        node,
+    };
+    let made = make_steps(
+        vertices,
+        polygons,
+        marks,
+        task,
+        counts,
+        from,
+        floats,
+        words,
+        tree,
+    );
+    let counts = made.counts;
+    if made.full {
+        return Stepped {
+            counts,
+            outcome: Outcome::Ends(Finish::Filled),
+        };
+    }
+    Stepped {
+        counts,
+        outcome: Outcome::Goes,
+    }
+}
+
+// A step: pops the least node, counts one, and looks at it.
+fn turn(
+    vertices: &[u8],
+    polygons: &[u8],
+    marks: &[u32; 32],
+    task: Task,
+    counts: Counts,
+    floats: &mut [f32],
+    words: &mut [u32],
+    tree: &mut [u32],
+) -> Stepped
+    requires { ⌜ Ground (task .slots) (now vertices) (now polygons) (now marks) ⌝ }
+    requires { ⌜ SoundFrom (now vertices) (now polygons) task (stateOf (workOf (now floats) (now words) (now tree)) counts) ⌝ }
+    requires { ⌜ counts .pops + 1 < 2 ^ 64 ⌝ }
+    ensures { λ r. ⌜ stepping (stateOf (workOf (now (floats .exit)) (now (words .exit)) (now (tree .exit))) (r .counts)) (r .outcome) ≡ step (floorOf (task .slots) (now (vertices .entry)) (now (polygons .entry))) task (stateOf (workOf (now (floats .entry)) (now (words .entry)) (now (tree .entry))) counts) ⌝ }
+{
+    let least = queue::least(tree);
+    if least == NONE {
+        return Stepped {
+            counts,
+            outcome: Outcome::Ends(Finish::Emptied),
+        };
+    }
+    let i = least as usize;
+    queue::remove(tree, floats, FLOATS, F_AT, task.places, i);
+    let counts = Counts {
+        taken: counts.taken,
+        records: counts.records,
+        pops: counts.pops + 1,
+    };
+    visit(
+        vertices,
+        polygons,
+        marks,
+        task,
+        counts,
+        i,
+        floats,
+        words,
+        tree,
+    )
+}
+
+// Steps until the search ends, or the budget is spent.
+fn run(
+    vertices: &[u8],
+    polygons: &[u8],
+    marks: &[u32; 32],
+    task: Task,
+    counts: Counts,
+    budget: usize,
+    floats: &mut [f32],
+    words: &mut [u32],
+    tree: &mut [u32],
+) -> Ended
+    requires { ⌜ Ground (task .slots) (now vertices) (now polygons) (now marks) ⌝ }
+    requires { ⌜ SoundFrom (now vertices) (now polygons) task (stateOf (workOf (now floats) (now words) (now tree)) counts) ⌝ }
+    requires { ⌜ counts .pops + budget < 2 ^ 64 ⌝ }
+    ensures { λ r. ⌜ ending (stateOf (workOf (now (floats .exit)) (now (words .exit)) (now (tree .exit))) (r .counts)) (r .finish) ≡ run (floorOf (task .slots) (now (vertices .entry)) (now (polygons .entry))) task budget (stateOf (workOf (now (floats .entry)) (now (words .entry)) (now (tree .entry))) counts) ⌝ }
+{
+    let mut counts = counts;
+    let mut left = budget;
+    while 0 < left {
+        let stepped = turn(vertices, polygons, marks, task, counts, floats, words, tree);
+        counts = stepped.counts;
+        let outcome = stepped.outcome;
+        if let Outcome::Ends(finish) = outcome {
+            return Ended { counts, finish };
+        }
+        left -= 1;
+    }
+    if queue::least(tree) == NONE {
+        return Ended {
+            counts,
+            finish: Finish::Emptied,
+        };
+    }
+    Ended {
+        counts,
+        finish: Finish::Stopped,
+    }
+}
+
+// The seed takes place 0, and its root is on record with distance 0.
+fn plant(task: Task, seed: Node, floats: &mut [f32], words: &mut [u32], tree: &mut [u32])
+    requires { ⌜ Room (task .places) (workOf (now floats) (now words) (now tree)) × (1 ≤ task .places) ⌝ }
+    ensures { λ _. ⌜ ((f : Floor) → workOf (now (floats .exit)) (now (words .exit)) (now (tree .exit)) ≡ planted f task seed (workOf (now (floats .entry)) (now (words .entry)) (now (tree .entry)))) ⌝ }
+{
+    queue::clear(tree, task.places);
+    put_floats(floats, 0, seed, 0.0);
+    put_words(words, 0, SEED, seed, 0, 0);
+    put_record(floats, 0, seed.root, 0.0);
+}
+
+// Searches from a point in polygon p.
+pub fn search_from(
+    vertices: &[u8],
+    polygons: &[u8],
+    marks: &[u32; 32],
+    task: Task,
+    start: Point,
+    p: usize,
+    budget: usize,
+    floats: &mut [f32],
+    words: &mut [u32],
+    tree: &mut [u32],
+) -> Ended
+    requires { ⌜ Ground (task .slots) (now vertices) (now polygons) (now marks) ⌝ }
+    requires { ⌜ Room (task .places) (workOf (now floats) (now words) (now tree)) × (1 ≤ task .places) ⌝ }
+    requires { ⌜ (p < length (now polygons) / (task .slots * 8)) × (eqb p (task .polygon) ≡ false) ⌝ }
+    ensures { λ r. ⌜ ending (stateOf (workOf (now (floats .exit)) (now (words .exit)) (now (tree .exit))) (r .counts)) (r .finish) ≡ searchedFrom (floorOf (task .slots) (now (vertices .entry)) (now (polygons .entry))) task start p budget (workOf (now (floats .entry)) (now (words .entry)) (now (tree .entry))) ⌝ }
+{
+    let seed = Node::seed(start, p as u32);
+    plant(task, seed, floats, words, tree);
+    let counts = Counts {
+        taken: 1,
+        records: 1,
+        pops: 0,
+    };
+    let from = Origin {
+        place: 0,
+        depth: 0,
+        node: seed,
+    };
+    let made = make_steps(
+        vertices,
+        polygons,
+        marks,
+        task,
+        counts,
+        from,
+        floats,
+        words,
+        tree,
+    );
+    let counts = made.counts;
+    if made.full {
+        return Ended {
+            counts,
+            finish: Finish::Filled,
+        };
+    }
+    run(
+        vertices,
+        polygons,
+        marks,
+        task,
+        counts,
+        budget,
+        floats,
+        words,
+        tree,
+    )
+}

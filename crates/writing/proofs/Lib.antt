@@ -1,0 +1,3 @@
+-- The laws of the route's bytes.
+pub mod Chaining
+pub mod Written

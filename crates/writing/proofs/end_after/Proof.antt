@@ -1,0 +1,19 @@
+-- `end_after` meets its contract. Assumes nothing.
+use mathlib.Core.Path.{ap, _∙_}
+use Rattle.route.specs.Record.{endRecord}
+use Rattle.steps.specs.declared.Ending.{Ending}
+use borrow.Author.Needs.{needs}
+use Rattle.writing.proofs.end_after.Statement.{statement}
+use Rattle.writing.proofs.end_after.Tie as tie
+
+ending-requires : tie.Need-ending-requires
+ending-requires c κs = search needs
+
+end-requires : tie.Need-end-requires
+end-requires c κs = search needs
+
+returns : tie.Need-returns
+returns c = c .end .ensures ∙ ap (λ (e : Ending). endRecord (e .points) (c .before .before .before .args .task .goal) (e .length)) (c .before .ending .ensures)
+
+pub end-after-spec : {M : Type 1} → statement M
+end-after-spec = tie.close (tie.spec ending-requires end-requires returns)

@@ -1,0 +1,150 @@
+// What a search answers, and the route's bytes: the seed, the steps down the chain of parents, and the end. They are written
+// from the end backwards, as the chain is walked.
+
+ghost use mathlib.Core.Path.{_≡_};
+ghost use mathlib.Core.List.{List};
+ghost use Prim.Native.Nat.{ℕ, _+_, _*_, _≤_, _<_, _^_};
+ghost use lib.ListN.{length};
+ghost use Rattle.route.specs.Record.{endRecord};
+ghost use Rattle.steps.specs.World.{endingOf};
+ghost use Rattle.places.specs.Layout.{workOf};
+ghost use Rattle.machine.specs.Search.{stateOf, ending};
+ghost use Rattle.writing.specs.Answers.{answerNumber};
+ghost use Rattle.writing.specs.Told.{written, routeBytes, straightBytes, told};
+ghost use Rattle.writing.specs.Writing.{putChain, Lies, Tellable, Tells};
+use floor::Refusal;
+use helpers::Point;
+use machine::Ended;
+use machine::Finish;
+use machine::Task;
+use places::depth_at;
+use places::node_at;
+use places::parent_at;
+use places::step_at;
+use route::Record;
+use steps::Node;
+
+// What a search answers. Each but Refused and NoPlaces has the counted steps, which are 0 for those two.
+pub enum Answer {
+    // 0: the route stands in the first so many bytes of the output.
+    Found { steps: usize, bytes: usize },
+    // 1: no route.
+    NotFound { steps: usize },
+    // 2 to 9: the floor or the question was refused.
+    Refused(Refusal),
+    // 10: the lent work buffers hold no node.
+    NoPlaces,
+    // 11: a node needed a place and none was left.
+    Full { steps: usize },
+    // 12: the budget was spent.
+    Spent { steps: usize },
+    // 13: the route is longer than the output.
+    Short { steps: usize },
+}
+
+// The record of the end after a node.
+fn end_after(task: Task, node: Node) -> Record
+    requires { ⌜ node .points + 2 < 2 ^ 32 ⌝ }
+    ensures { λ r. ⌜ r ≡ endRecord (endingOf (task .goal) node .points) (task .goal) (endingOf (task .goal) node .length) ⌝ }
+{
+    let goal = task.goal;
+    let ending = node.ending(goal);
+    Record::end(ending.points, goal, ending.length)
+}
+
+// Writes the steps of the chain that ends at place i, the last one as record `depth`.
+fn write_chain(floats: &[f32], words: &[u32], i: usize, depth: usize, out: &mut [u8])
+    requires { ⌜ Lies (now floats) (now words) depth i × ((depth + 1) * 32 ≤ length (now out)) ⌝ }
+    ensures { λ _. ⌜ now (out .exit) ≡ putChain (now (floats .entry)) (now (words .entry)) depth i (now (out .entry)) ⌝ }
+{
+    let mut place = i;
+    let mut k = depth;
+    while 0 < k {
+        let step = step_at(floats, words, place);
+        Record::step(step).write(out, k);
+        place = parent_at(words, place) as usize;
+        k -= 1;
+    }
+}
+
+// Writes the route that ends at place i, if there is room.
+fn write_route(
+    task: Task,
+    start: Point,
+    p: usize,
+    i: usize,
+    steps: usize,
+    floats: &[f32],
+    words: &[u32],
+    out: &mut [u8],
+) -> Answer
+    requires { ⌜ Tellable (now floats) (now words) i × (p < 2 ^ 32) ⌝ }
+    ensures { λ r. ⌜ ((queue : List ℕ) → r ≡ written (routeBytes (workOf (now (floats .entry)) (now (words .entry)) queue) start p (task .goal) i) steps (now (out .entry)) .answer) × ((queue : List ℕ) → now (out .exit) ≡ written (routeBytes (workOf (now (floats .entry)) (now (words .entry)) queue) start p (task .goal) i) steps (now (out .entry)) .out) ⌝ }
+{
+    let depth = depth_at(words, i) as usize;
+    let bytes = (depth + 2) * Record::BYTES;
+    if out.len() < bytes {
+        return Answer::Short { steps };
+    }
+    let node = node_at(floats, words, i);
+    end_after(task, node).write(out, depth + 1);
+    write_chain(floats, words, i, depth, out);
+    Record::seed(p as u32, start).write(out, 0);
+    Answer::Found { steps, bytes }
+}
+
+// Writes the route of no steps.
+pub fn write_straight(task: Task, start: Point, p: usize, out: &mut [u8]) -> Answer
+    requires { ⌜ p < 2 ^ 32 ⌝ }
+    ensures { λ r. ⌜ (r ≡ written (straightBytes start p (task .goal)) 0 (now (out .entry)) .answer) × (now (out .exit) ≡ written (straightBytes start p (task .goal)) 0 (now (out .entry)) .out) ⌝ }
+{
+    let bytes = 2 * Record::BYTES;
+    if out.len() < bytes {
+        return Answer::Short { steps: 0 };
+    }
+    let seed = Node::seed(start, p as u32);
+    end_after(task, seed).write(out, 1);
+    Record::seed(p as u32, start).write(out, 0);
+    Answer::Found { steps: 0, bytes }
+}
+
+// Tells how the search ended, and writes the route if it arrived.
+pub fn tell(
+    task: Task,
+    start: Point,
+    p: usize,
+    ended: Ended,
+    floats: &[f32],
+    words: &[u32],
+    out: &mut [u8],
+) -> Answer
+    requires { ⌜ Tells (now floats) (now words) (ended .finish) × (p < 2 ^ 32) ⌝ }
+    ensures { λ r. ⌜ ((queue : List ℕ) → r ≡ told start p (task .goal) (ending (stateOf (workOf (now (floats .entry)) (now (words .entry)) queue) (ended .counts)) (ended .finish)) (now (out .entry)) .answer) × ((queue : List ℕ) → now (out .exit) ≡ told start p (task .goal) (ending (stateOf (workOf (now (floats .entry)) (now (words .entry)) queue) (ended .counts)) (ended .finish)) (now (out .entry)) .out) ⌝ }
+{
+    let counts = ended.counts;
+    let steps = counts.pops;
+    let finish = ended.finish;
+    match finish {
+        Finish::Arrived(i) => write_route(task, start, p, i, steps, floats, words, out),
+        Finish::Emptied => Answer::NotFound { steps },
+        Finish::Filled => Answer::Full { steps },
+        Finish::Stopped => Answer::Spent { steps },
+    }
+}
+
+impl Answer {
+    // The number in document 01's table.
+    pub fn number(self) -> u32
+        ensures { λ r. ⌜ r ≡ answerNumber self ⌝ }
+    {
+        match self {
+            Answer::Found { steps: _, bytes: _ } => 0,
+            Answer::NotFound { steps: _ } => 1,
+            Answer::Refused(refusal) => refusal.number(),
+            Answer::NoPlaces => 10,
+            Answer::Full { steps: _ } => 11,
+            Answer::Spent { steps: _ } => 12,
+            Answer::Short { steps: _ } => 13,
+        }
+    }
+}
