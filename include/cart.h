@@ -1,13 +1,16 @@
-/* The judge for a cart's controller: reads a route before the cart moves.
+/* The planner and the judge for a cart's controller: finds a route, reads a route before the cart moves, lists its points.
 
-   Link target/staticlib/libcart_c.a, which `rt staticlib cart_c` writes (for x86-64). examples/run builds and runs a program
+   Link target/staticlib/libcart_c.a, which `rt staticlib cart_c` writes (for x86-64). examples/run builds and runs programs
    over it. Each function here is proved to answer as crates/cart_c says, on any bytes at all.
 
-   Bytes are little-endian, whatever the processor. The byte pointers need no alignment. A pointer must point to as many bytes
-   (for `points`, floats) as the length beside it says, also where that is 0 (then any valid address will do, but not NULL, and
-   aligned for a float where it is `points`), and nothing else may write there while the call runs. The functions keep nothing
-   between calls and take no heap. All that they want of the linker is memcpy and memset. On document 01's example cart_judge
-   took 2,641 bytes of the caller's stack and cart_read_out 2,929 (x86-64). */
+   Bytes are little-endian, whatever the processor. The byte pointers need no alignment; every other pointer is aligned as its
+   type is. A pointer must point to as many bytes (floats, words) as the length beside it says, also where that is 0 (then any
+   valid address will do, but not NULL). What a function writes to may overlap nothing else that it is lent, and nothing else may
+   write to any of it while the call runs. The functions keep nothing between calls, take no heap and do not recurse. All that they
+   want of the linker is memcpy and memset.
+
+   Stack, with the arguments, on x86-64: cart_search 2,936 bytes, cart_judge 2,632, cart_read_out 2,808, cart_words 8. That is what
+   examples/stack.c measures; no input takes more (docs/DECISIONS.md). */
 
 #ifndef CART_H
 #define CART_H
@@ -25,10 +28,55 @@ enum {
     CART_VERTEX_BYTES = 8 * 1024,   /* 1 to 1,024 records of 8: x, y as f32 */
     CART_POLYGON_BYTES = 64 * 512,  /* 1 to 512 records of 64: eight u32 corners, eight u32 neighbours */
     CART_QUESTION_BYTES = 16,       /* start x, y, goal x, y as f32 */
-    CART_ROUTE_BYTES = 32 * 4097,   /* 2 to 4,097 records of 32 */
+    CART_RECORD_BYTES = 32,         /* one record of a route */
+    CART_ROUTE_BYTES = CART_RECORD_BYTES * 4097, /* 2 to 4,097 records: room in cart_search for any route */
     CART_WORDS_BYTES = 64,          /* the room that cart_words asks for */
-    CART_POINTS_FLOATS = 2 * 4097   /* floats: room in cart_read_out for the points of any route */
+    CART_POINTS_FLOATS = 2 * 4097,  /* floats: room in cart_read_out for the points of any route */
+    CART_STACK_BYTES = 3072         /* stack that is enough for each function here, on x86-64 */
 };
+
+/* What cart_search needs for each node. For n nodes lend CART_NODE_FLOATS * n floats, CART_NODE_WORDS * n words,
+   CART_NODE_TREE * n words for the tree, and CART_RECORD_BYTES * (n + 1) bytes for the route: then 13 never comes. */
+enum {
+    CART_NODE_FLOATS = 11,
+    CART_NODE_WORDS = 7,
+    CART_NODE_TREE = 2,
+    CART_MOST_NODES = 4096,  /* room for more is not used */
+    CART_BUDGET = 4096       /* the budget where there is no reason for another */
+};
+
+/* Finds a route from the question's start to its goal. Answers 0 if it found one, and otherwise why not:
+
+     1  no route was found: there is nowhere left to look
+     2 to 9  the floor or the question is refused, as in cart_judge
+    10  the work buffers hold no node
+    11  a node was needed and all are used: lend more, up to CART_MOST_NODES
+    12  the budget is spent: allow more steps
+    13  a route was found and `out` is too short for it
+
+   The nodes that the work buffers hold are floats_length / CART_NODE_FLOATS, words_length / CART_NODE_WORDS or tree_length /
+   CART_NODE_TREE, whichever is least, and CART_MOST_NODES at most. The buffers may hold anything before the call. The budget is
+   the most steps that the search may take; each takes one node from the queue.
+
+   *steps is written with every answer: the steps taken, 0 with 2 to 10.
+   *value is written with 0, 4, 5 and 6 alone: with 0 the bytes of the route, with 4, 5 and 6 the lowest record at fault, as
+   cart_judge has it. With every other answer it stays as it is.
+   `out` is written with 0 alone: the route stands in its first *value bytes, and those behind stay as they are.
+   The work buffers stay as they are with 2 to 10, and where start and goal lie in one polygon. With every other answer they hold
+   the search as it ended (docs/BUFFERS.md has every word); nothing has to be read there.
+
+   A route that was found is one that cart_judge accepts: that is proved too (`found-is-accepted`). */
+uint32_t cart_search(
+    const uint8_t *vertices, size_t vertices_length,
+    const uint8_t *polygons, size_t polygons_length,
+    const uint8_t *question, size_t question_length,
+    size_t budget,
+    float *floats, size_t floats_length,
+    uint32_t *words, size_t words_length,
+    uint32_t *tree, size_t tree_length,
+    uint8_t *out, size_t out_length,
+    size_t *steps,
+    size_t *value);
 
 /* Judges a route against a floor and a question. Answers 0 if the cart may drive it, and otherwise why not:
 
@@ -40,8 +88,7 @@ enum {
     22  a middle record is not a step      23  its last record is not the true end
 
    With 4, 5, 6, 21, 22 and 23 the lowest record at fault is written to *record, counted from 0: a vertex for 4, a polygon for
-   5 and 6, a route record for the others. With every other answer *record stays as it is. `record` points to a size_t, aligned
-   as one, that lies in none of the four lists. */
+   5 and 6, a route record for the others. With every other answer *record stays as it is. */
 uint32_t cart_judge(
     const uint8_t *vertices, size_t vertices_length,
     const uint8_t *polygons, size_t polygons_length,
@@ -59,8 +106,7 @@ uint32_t cart_judge(
 
    With 0 the number of points is written to *value; with 4, 5, 6, 21, 22 and 23 the record at fault, as cart_judge has it.
    With every other answer, 13 among them, *value stays as it is. With 0 the first floats, two for each point, are written, and
-   those behind them stay as they are; with every other answer all of `points` stays. `points` and `value` are aligned as float
-   and size_t and lie in none of the four lists, nor in each other. */
+   those behind them stay as they are; with every other answer all of `points` stays. */
 uint32_t cart_read_out(
     const uint8_t *vertices, size_t vertices_length,
     const uint8_t *polygons, size_t polygons_length,
@@ -70,7 +116,7 @@ uint32_t cart_read_out(
     size_t *value);
 
 /* Puts plain words for a number into `words`, CART_WORDS_BYTES of room, and answers how many bytes they take. They are ASCII
-   with no zero at the end; the room behind them stays as it is. */
+   with no zero at the end; the room behind them stays as it is. 0 is said as the judge means it, "accepted". */
 size_t cart_words(uint32_t number, uint8_t *words);
 
 #ifdef __cplusplus
