@@ -11,6 +11,11 @@ const MOST_POLYGONS: usize = 512;
 const MOST_CORNERS: usize = 8;
 const LIMIT: f32 = 16_384.0;
 
+/// "finite, of magnitude at most 16,384"
+pub fn is_in_range(point: &Vec2) -> bool {
+    point.x.abs() <= LIMIT && point.y.abs() <= LIMIT
+}
+
 /// The used slots of a record: edge i runs from corner i to corner i + 1, cyclically, and has neighbour i across it.
 #[derive(Clone, Debug, PartialEq)]
 pub struct Polygon {
@@ -62,12 +67,11 @@ impl Floor {
 
     /// The number that tests 2 to 6 give, 0 if they pass. Slots that a record leaves unused can't be wrong here.
     pub fn refused(&self) -> u32 {
-        let in_range = |vertex: &Vec2| vertex.x.abs() <= LIMIT && vertex.y.abs() <= LIMIT;
         if !(1..=MOST_VERTICES).contains(&self.vertices.len()) {
             2
         } else if !(1..=MOST_POLYGONS).contains(&self.polygons.len()) {
             3
-        } else if !self.vertices.iter().all(in_range) {
+        } else if !self.vertices.iter().all(is_in_range) {
             4
         } else if !self.polygons.iter().all(|polygon| self.has_corners(polygon)) {
             5

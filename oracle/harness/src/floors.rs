@@ -3,6 +3,7 @@
 use glam::Vec2;
 
 use crate::floor::{Floor, Polygon, WALL};
+use crate::halls::turned;
 use crate::random::Random;
 use crate::steps01::{enter, seed, steps_from, Node, Segment};
 
@@ -430,15 +431,4 @@ fn has_corners_in_line(floor: &Floor, polygon: &Polygon) -> bool {
         let ((ax, ay), (bx, by), (cx, cy)) = (corner(i), corner(i + 1), corner(i + 2));
         (bx - ax) * (cy - ay) == (by - ay) * (cx - ax)
     })
-}
-
-/// After so many quarter turns, on the square about the origin: no library's sine, so the same everywhere.
-fn turned(turn: f32) -> Vec2 {
-    let (quarter, rest) = (turn as u32 % 4, 2.0 * turn.fract() - 1.0);
-    match quarter {
-        0 => Vec2::new(1.0, rest),
-        1 => Vec2::new(-rest, 1.0),
-        2 => Vec2::new(-1.0, -rest),
-        _ => Vec2::new(rest, -1.0),
-    }
 }

@@ -150,7 +150,7 @@ fn is_one_way(floor: &Floor, p: u32) -> bool {
 }
 
 /// A node that is made alone, and not in the goal polygon, is expanded in place, so many times at most.
-const CHAINED: usize = 64;
+pub const CHAINED: usize = 64;
 
 /// What the Rust puts into its queue when it expands a node, where `following` has all switches as it has them: without a
 /// node whose distance or heuristic is NaN or whose root is known to be nearer, and after chains in place.

@@ -4,7 +4,7 @@
 use glam::Vec2;
 use polyanya::Mesh;
 
-use crate::floor::Floor;
+use crate::floor::{is_in_range, Floor};
 use crate::steps01::{enter, seed, steps_from, Node, Step};
 
 /// The most places that a caller can lend.
@@ -37,6 +37,17 @@ pub struct Route {
     pub length: f32,
 }
 
+impl Route {
+    /// The route file, from a start in a polygon to a goal.
+    pub fn bytes(&self, start: Vec2, polygon: u32, goal: Vec2) -> Vec<u8> {
+        let [from_x, from_y, to_x, to_y, length] = [start.x, start.y, goal.x, goal.y, self.length].map(f32::to_bits);
+        let mut records = vec![[1, polygon, from_x, from_y, 0, 0, 0, 0]];
+        records.extend(self.steps.iter().map(Step::words));
+        records.push([5, self.points.len() as u32, to_x, to_y, length, 0, 0, 0]);
+        records.into_iter().flatten().flat_map(u32::to_le_bytes).collect()
+    }
+}
+
 struct Search<'f> {
     floor: &'f Floor,
     goal: Vec2,
@@ -51,6 +62,10 @@ struct Search<'f> {
 /// The floor must have passed tests 2 to 6.
 pub fn search(floor: &Floor, start: Vec2, goal: Vec2, lent: usize, budget: usize) -> Answer {
     let refused = |number| Answer { number, pops: 0, route: None };
+    // "question not 16 bytes, or start or goal coordinate": here it always has the bytes
+    if ![start, goal].iter().all(is_in_range) {
+        return refused(7);
+    }
     let Some(start_polygon) = floor.polygon_of(start) else { return refused(8) };
     let Some(goal_polygon) = floor.polygon_of(goal) else { return refused(9) };
     if lent == 0 {

@@ -147,6 +147,15 @@ impl Mesh {
         (popped, None)
     }
 
+    /// How many nodes a search makes within that many pops, those that it expands in place among them.
+    pub fn made(&self, start: Place, goal: Place, most: usize) -> usize {
+        let mut search = SearchInstance::setup(self, (start.0, &[start.1]), (goal.0, &[goal.1]), HashSet::new());
+        let going = |search: &mut SearchInstance| matches!(search.next(), InstanceStep::Continue);
+        (0..most).take_while(|_| going(&mut search)).count();
+        // The arena begins with the start's polygon.
+        search.path_arena.len() - 1
+    }
+
     /// The public search, the polygons of both points named, since the files that look them up are not in the extract.
     pub fn path_between(&self, start: Place, goal: Place) -> Option<Path> {
         let coords = |(pos, polygon_index): Place| Coords { pos, layer: Some(0), polygon_index };

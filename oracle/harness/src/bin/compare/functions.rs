@@ -7,7 +7,7 @@ use std::thread;
 use harness::functions::{Function, Input, FUNCTIONS, WALK};
 use harness::inputs::{grid_input, grid_size, grid_values, Draw, Kind};
 
-use crate::{ours, steps, Sum, SHOWN};
+use crate::{ours, search, steps, Sum, SHOWN};
 
 const CHUNK: usize = 1 << 16;
 /// Picks from all special values, for the functions whose grid takes only a few of them.
@@ -44,7 +44,7 @@ impl<A> Counts<A> {
 
 /// Prints a line a function: each that ONLY names, or all.
 pub fn compare(threads: usize) -> Sum {
-    let names: Vec<&str> = FUNCTIONS.iter().map(|function| function.name).chain([WALK.name, steps::NAME]).collect();
+    let names: Vec<&str> = FUNCTIONS.iter().map(|function| function.name).chain([WALK.name, steps::NAME, search::NAME]).collect();
     let only = std::env::var("ONLY").unwrap_or(names.join(" "));
     let only: Vec<&str> = only.split_whitespace().collect();
     for name in &only {
@@ -60,6 +60,9 @@ pub fn compare(threads: usize) -> Sum {
     }
     if only.contains(&steps::NAME) {
         sum += steps::compare(threads);
+    }
+    if only.contains(&search::NAME) {
+        sum += search::compare(threads);
     }
     sum
 }

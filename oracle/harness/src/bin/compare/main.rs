@@ -4,9 +4,13 @@
 
 use std::process::ExitCode;
 
+#[allow(dead_code)] // The program of bench/ shares it.
+mod cart;
 mod functions;
+mod lengths;
 mod ours;
 mod roots;
+mod search;
 mod steps;
 mod time;
 

@@ -1,0 +1,210 @@
+//! The whole search on random questions: ours beside document 01's own sentences (search01), number, counted steps and route
+//! bytes; every route that is found goes to our judge; and its length is held beside the unchanged Rust's.
+
+use std::sync::atomic::{AtomicUsize, Ordering};
+use std::thread;
+
+use glam::Vec2;
+use harness::floor::Floor;
+use harness::floors::Floors;
+use harness::halls::{Halls, Shape, SHAPES};
+use harness::random::Random;
+use harness::search01::{search, Answer, BUDGET};
+
+use crate::cart::{judged, question, Lent, Stored, PLACES, ROUTE};
+use crate::lengths::{Counts as Lengths, Ends};
+use crate::{Sum, SHOWN};
+
+/// What ONLY calls it.
+pub const NAME: &str = "search";
+
+/// Chunks of each class, the questions of one, and the questions of one floor.
+const CHUNKS: usize = 128;
+const CHUNK: usize = 64;
+const QUESTIONS: usize = 8;
+const SEED: u64 = 0x5EA2_0001;
+/// The most polygons of a floor, and of one in eight.
+const MOST: usize = 120;
+const MANY: usize = 300;
+
+/// Shapes of halls, and before them the small floors that the steps are compared on.
+const CLASSES: usize = SHAPES.len() + 1;
+
+/// What a search answered: the number, the counted steps, the route, and whether it left everything else as it was.
+#[derive(PartialEq)]
+struct Told {
+    number: u32,
+    steps: usize,
+    route: Vec<u8>,
+    stayed: bool,
+}
+
+#[derive(Default)]
+struct Counts {
+    questions: usize,
+    numbers: [usize; 14],
+    steps: usize,
+    /// Routes that the judge did not accept.
+    refused: usize,
+    differ: usize,
+    /// The first few.
+    differences: Vec<String>,
+    lengths: Lengths,
+}
+
+impl Counts {
+    fn add(&mut self, other: Counts) {
+        self.questions += other.questions;
+        self.numbers.iter_mut().zip(other.numbers).for_each(|(sum, count)| *sum += count);
+        self.steps += other.steps;
+        self.refused += other.refused;
+        self.differ += other.differ;
+        self.differences.extend(other.differences);
+        self.lengths.add(other.lengths);
+    }
+}
+
+/// Prints the line of the function, then one a class, then what became of the lengths.
+pub fn compare(threads: usize) -> Sum {
+    let mut all = Counts::default();
+    let mut lines = Vec::new();
+    for class in 0..CLASSES {
+        let counts = count(class, threads);
+        lines.push(format!(
+            "  {}: {} questions, {} steps, {} found, {} refused by the judge, {} differ",
+            described(class),
+            counts.questions,
+            counts.steps,
+            counts.numbers[0],
+            counts.refused,
+            counts.differ
+        ));
+        all.add(counts);
+    }
+    println!("{:<24}{:>12}{:>12}{:>12}", NAME, 0, all.questions, all.differ + all.refused);
+    lines.iter().for_each(|line| println!("{line}"));
+    let numbers = all.numbers.iter().enumerate().filter(|(_, &count)| count != 0);
+    let numbers: Vec<String> = numbers.map(|(number, count)| format!("{number}: {count}")).collect();
+    println!("  questions by their number: {}", numbers.join(", "));
+    all.differences.iter().take(SHOWN).for_each(|text| println!("{text}"));
+    let unlisted = all.lengths.print();
+    Sum { compared: all.questions, differ: all.differ + all.refused + unlisted }
+}
+
+fn described(class: usize) -> &'static str {
+    match class.checked_sub(1).map(|place| SHAPES[place]) {
+        None => "small floors of any shape",
+        Some(Shape::Mixed) => "grids with obstacles, polygons of 3 to 8 corners",
+        Some(Shape::Triangles) => "grids with obstacles, triangles",
+        Some(Shape::Corridor) => "corridors that go to and fro",
+        Some(Shape::Rings) => "rings about a pillar",
+        Some(Shape::Long) => "halls of 12,000 metres",
+    }
+}
+
+fn count(class: usize, threads: usize) -> Counts {
+    let next = AtomicUsize::new(0);
+    let work = || {
+        let mut counts = Counts::default();
+        let mut lent = Lent::new();
+        loop {
+            let chunk = next.fetch_add(1, Ordering::Relaxed);
+            if chunk >= CHUNKS {
+                return counts;
+            }
+            compare_chunk(class, chunk, &mut lent, &mut counts);
+        }
+    };
+    let mut all = Counts::default();
+    thread::scope(|scope| {
+        let workers: Vec<_> = (0..threads).map(|_| scope.spawn(work)).collect();
+        workers.into_iter().for_each(|worker| all.add(worker.join().expect("a thread ended early")));
+    });
+    all
+}
+
+fn compare_chunk(class: usize, chunk: usize, lent: &mut Lent, counts: &mut Counts) {
+    let seed = SEED ^ (class as u64) << 48 ^ (chunk as u64) << 32;
+    let (mut floors, mut halls, mut random) = (Floors::new(seed), Halls::new(seed ^ 1), Random::new(seed ^ 2));
+    for _ in 0..CHUNK / QUESTIONS {
+        let floor = match class.checked_sub(1) {
+            None => floors.floor(),
+            Some(place) => {
+                let most = if random.below(8) == 0 { MANY } else { MOST };
+                halls.floor(SHAPES[place], 6 + random.below(most))
+            }
+        };
+        assert_eq!(floor.refused(), 0, "{floor:?}");
+        let (stored, ends) = (Stored::new(&floor), Ends::new(&floor));
+        for _ in 0..QUESTIONS {
+            // Anywhere in a polygon, or one time in four a corner, on an edge or beside it.
+            let mut point = || if random.below(4) == 0 { floors.point(&floor) } else { halls.point(&floor) };
+            let (start, goal) = (point(), point());
+            let lends = lends(&mut random);
+            compare_question(&floor, &stored, &ends, (start, goal), lends, lent, counts);
+        }
+    }
+}
+
+/// The budget, the places and the room for the route: three times in four all that there is.
+fn lends(random: &mut Random) -> (usize, usize, usize) {
+    match random.below(12) {
+        0 => (random.below(40), PLACES, ROUTE),
+        1 => (BUDGET, random.below(60), ROUTE),
+        2 => (BUDGET, PLACES, random.below(400)),
+        _ => (BUDGET, PLACES, ROUTE),
+    }
+}
+
+fn compare_question(
+    floor: &Floor,
+    stored: &Stored,
+    ends: &Ends,
+    (start, goal): (Vec2, Vec2),
+    (budget, places, room): (usize, usize, usize),
+    lent: &mut Lent,
+    counts: &mut Counts,
+) {
+    let asked = question(start, goal);
+    let answer = search(floor, start, goal, places, budget);
+    let by_document = by_document(&answer, floor, (start, goal), room);
+    let ours = ours(stored, &asked, (budget, places, room), lent);
+    counts.questions += 1;
+    counts.numbers[by_document.number as usize] += 1;
+    counts.steps += by_document.steps;
+    counts.refused += (ours.number == 0 && judged(stored, &asked, &ours.route) != 0) as usize;
+    if ours != by_document {
+        counts.differ += 1;
+        let text = format!("  {start:?} to {goal:?}, budget {budget}, {places} places, room {room}, on {floor:?}");
+        counts.differences.push(format!("{text}\n    01:   {}\n    ours: {}", by_document.text(), ours.text()));
+    }
+    let whole = (budget, places, room) == (BUDGET, PLACES, ROUTE);
+    if whole && !(7..=9).contains(&answer.number) {
+        counts.lengths.compare(ends, floor, (start, goal), &answer);
+    }
+}
+
+fn by_document(answer: &Answer, floor: &Floor, (start, goal): (Vec2, Vec2), room: usize) -> Told {
+    let route = answer.route.as_ref().map(|route| route.bytes(start, floor.polygon_of(start).expect("a polygon"), goal));
+    let (number, route) = match route {
+        Some(bytes) if bytes.len() > room => (13, Vec::new()),
+        Some(bytes) => (0, bytes),
+        None => (answer.number, Vec::new()),
+    };
+    Told { number, steps: answer.pops, route, stayed: true }
+}
+
+fn ours(stored: &Stored, asked: &[u8], (budget, places, room): (usize, usize, usize), lent: &mut Lent) -> Told {
+    let (number, steps, value) = lent.search(stored, asked, budget, places, room);
+    let bytes = if number == 0 { value.min(ROUTE) } else { 0 };
+    let route = lent.route(bytes).to_vec();
+    Told { number, steps, route, stayed: lent.stayed(places, bytes) }
+}
+
+impl Told {
+    fn text(&self) -> String {
+        let words = self.route.chunks_exact(4).map(|four| format!("{:08X}", u32::from_le_bytes([four[0], four[1], four[2], four[3]])));
+        let stayed = if self.stayed { "" } else { ", and wrote where it may not" };
+        format!("{} after {} steps, {}{stayed}", self.number, self.steps, words.collect::<Vec<_>>().join(" "))
+    }
+}
