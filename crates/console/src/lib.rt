@@ -1,6 +1,7 @@
 // What the programs share: room for each file, a file or standard input read whole into it, and a verdict said in one line.
 
 ghost use mathlib.Core.Path.{_≡_};
+ghost use Prim.Native.Nat.{_≤_, min};
 ghost use lib.ListN.{length};
 ghost use Rattle.io.specs.Counts.{Counts};
 use judge::Verdict;
@@ -75,6 +76,26 @@ fn read_whole(fd: i32, name: &[u8], room: &mut [u8]) -> usize
     n
 }
 
+// Reads the next n bytes to the front of the room, or as many as it has room for, and answers how many were wanted.
+pub fn read_part(fd: i32, n: usize, room: &mut [u8]) -> usize
+    ensures { λ r. ⌜ Counts r (now (room .exit)) ⌝ }
+{
+    let n = at_most(n, room.len());
+    io::read_full(fd, &mut room[..n]);
+    n
+}
+
+// A number, or the most that is allowed if it is more.
+pub fn at_most(n: usize, most: usize) -> usize
+    ensures { λ r. ⌜ r ≡ min n most ⌝ }
+    ensures { λ r. ⌜ r ≤ most ⌝ }
+{
+    if n <= most {
+        return n;
+    }
+    most
+}
+
 // Whether nothing is left to read.
 fn is_over(fd: i32) -> bool {
     let mut byte = [0u8; 1];
@@ -99,9 +120,14 @@ fn say_record(record: usize) {
 
 // The words for a number, and the end of the line.
 pub fn write_words(fd: i32, before: &[u8], number: u32) {
+    io::write_all(fd, before);
+    put_words(fd, number);
+    io::write_all(fd, b"\n");
+}
+
+// The words for a number.
+pub fn put_words(fd: i32, number: u32) {
     let mut room = [0u8; 64];
     let n = says::words(number, &mut room);
-    io::write_all(fd, before);
     io::write_all(fd, &room[..n]);
-    io::write_all(fd, b"\n");
 }

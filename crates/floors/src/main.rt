@@ -3,7 +3,6 @@
 // "5 1" for corners of polygon 1 at fault, or "inside 0 1" for the polygons of start and goal.
 
 ghost use mathlib.Core.Path.{_≡_};
-ghost use Prim.Native.Nat.{_≤_};
 ghost use lib.ListN.{length};
 use floor::Look;
 use floor::Refusal;
@@ -85,30 +84,10 @@ fn look_at_case(
     polygons: &mut [u8],
     question: &mut [u8],
 ) {
-    let v = read_part(fd, v, vertices);
-    let p = read_part(fd, p, polygons);
-    let q = read_part(fd, q, question);
+    let v = console::read_part(fd, v as usize, vertices);
+    let p = console::read_part(fd, p as usize, polygons);
+    let q = console::read_part(fd, q as usize, question);
     say(floor::look_at(&vertices[..v], &polygons[..p], &question[..q]));
-}
-
-// Reads n bytes to the front of the room, or as many as it has room for, and answers how many were wanted.
-fn read_part(fd: i32, n: u32, room: &mut [u8]) -> usize
-    ensures { λ r. ⌜ r ≤ length (now (room .exit)) ⌝ }
-{
-    let n = at_most(n, room.len());
-    io::read_full(fd, &mut room[..n]);
-    n
-}
-
-// A length, or the most that a list of this kind may have if it is more.
-fn at_most(n: u32, most: usize) -> usize
-    ensures { λ r. ⌜ r ≤ most ⌝ }
-{
-    let n = n as usize;
-    if n < most {
-        return n;
-    }
-    most
 }
 
 fn say(look: Look) {

@@ -1,9 +1,16 @@
--- `floors::read_part` stays inside its room. Assumes nothing.
+-- `console::read_part` stays inside its room. Assumes nothing.
+use Prim.Native.Nat.{ℕ, _≤_}
 use mathlib.Core.Path.{sym}
+use mathlib.Core.List.{List}
+use lib.ListN.{length}
 use lib.Seq.{length-take-le}
 use borrow.Author.Needs.{needs}
-use Rattle.floors.proofs.read_part.Statement.{statement}
-use Rattle.floors.proofs.read_part.Tie as tie
+use Rattle.io.specs.Counts.{Counts}
+use Rattle.console.proofs.read_part.Statement.{statement}
+use Rattle.console.proofs.read_part.Tie as tie
+
+counted : (n : ℕ) (room : List ℕ) → n ≤ length room → Counts n room
+counted n room h = (h, sym (length-take-le _ _ h))
 
 at-most-requires : tie.Need-at-most-requires
 at-most-requires c κs = search needs
@@ -12,7 +19,7 @@ slice-relend-prefix-read-full : tie.Need-slice-relend-prefix-read-full
 slice-relend-prefix-read-full c = search needs
 
 slice-aggregate-read-full : tie.Need-slice-aggregate-read-full
-slice-aggregate-read-full c = sym (length-take-le _ _ (c .before .at-most .ensures))
+slice-aggregate-read-full c = sym (length-take-le _ _ (c .before .at-most .ensures .1))
 
 read-full-requires : tie.Need-read-full-requires
 read-full-requires c κs = search needs
@@ -21,7 +28,7 @@ same-length : tie.Need-same-length
 same-length c = search needs
 
 returns : tie.Need-returns
-returns c = search needs
+returns c = counted _ _ (search needs)
 
 pub read-part-spec : {M : Type 1} → statement M
 read-part-spec =

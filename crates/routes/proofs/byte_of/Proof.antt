@@ -1,0 +1,20 @@
+-- `routes::byte_of` meets its contract. Assumes nothing.
+use borrow.Author.Needs.{needs}
+use borrow.Author.Tests.{lt-ltb, le-ltb}
+use Rattle.routes.specs.Stored.{byteOf}
+use Rattle.routes.proofs.byte_of.Statement.{statement}
+use Rattle.routes.proofs.byte_of.Tie as tie
+
+shared-slice-read-result : tie.Need-shared-slice-read-result
+shared-slice-read-result c = search needs
+
+returns : tie.Need-returns
+unfolding byteOf
+returns c = rw (lt-ltb _ _ (c .before .if1 .taken))
+
+returns-2 : tie.Need-returns-2
+unfolding byteOf
+returns-2 c = rw (le-ltb _ _ (c .if1 .left))
+
+pub byte-of-spec : {M : Type 1} → statement M
+byte-of-spec = tie.close (tie.spec shared-slice-read-result returns returns-2)
