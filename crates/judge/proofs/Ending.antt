@@ -5,11 +5,12 @@ use mathlib.Core.Bool.{Bool, true, false}
 use mathlib.Core.List.{List}
 use borrow.Author.Tests.{eq-eqb, ne-eqb}
 use Rattle.helpers.specs.declared.point.Point.{Point}
-use Rattle.route.specs.declared.Record.{Record}
+use Rattle.records.specs.declared.Record.{Record}
 use Rattle.route.specs.declared.Judged.the-variants.{Accepted, NotEnd}
-use Rattle.route.specs.Record.{recordAt, recordBytes, endRecord, endBytes}
+use Rattle.route.specs.Record.{recordAt, endBytes}
+use Rattle.records.specs.Records.{recordBytes, endRecord}
 use Rattle.route.specs.Judge.{sameBytes, judgeEnd}
-use Rattle.route.proofs.Stored.{end-tested}
+use Rattle.records.proofs.Stored.{end-tested}
 use Rattle.floor.specs.Stored.{Floor}
 use Rattle.steps.specs.declared.Node.{Node}
 use Rattle.steps.specs.declared.Ending.{Ending}

@@ -20,8 +20,8 @@ use Rattle.route.proofs.Turns.{length-gives, begins, goes-on-to, stops-at, ends
 use Rattle.steps.specs.declared.Node.{Node}
 use Rattle.steps.specs.Steps.{rootAfter, stepsFrom, seedNode, enter}
 use Rattle.steps.specs.World.{worldIn}
-use Rattle.steps.specs.Going.{Stands}
-use Rattle.steps.proofs.Stands.{seed-stands, enter-stands}
+use Rattle.going.specs.Going.{Stands}
+use Rattle.going.proofs.Stands.{seed-stands, enter-stands}
 use Rattle.judge.specs.Ready.{Ready}
 use Rattle.judge.specs.Verdict.{asked, endOf}
 use Rattle.judge.proofs.Ending.{end-in-world}

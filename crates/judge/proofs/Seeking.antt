@@ -1,5 +1,5 @@
 -- A record is sought among the steps of a node by one walk round its polygon: what one part of an edge decides, and what is left to the parts after it.
--- Rests on the laws of the walk (steps, proofs/Left and Stepping). Assumes nothing.
+-- Rests on the laws of the walk (going, proofs/Left and Stepping). Assumes nothing.
 use Prim.Native.Nat.{ℕ}
 use mathlib.Core.Path.{_≡_, refl, sym, ap, _∙_}
 use mathlib.Core.Bool.{Bool, true, false, cond}
@@ -16,15 +16,15 @@ use Rattle.route.specs.declared.Sought.the-variants.{Found, Missing}
 use Rattle.route.specs.Record.{stepBytes}
 use Rattle.route.specs.Judge.{sameBytes, findStep, orElse}
 use Rattle.steps.specs.declared.Node.{Node}
-use Rattle.steps.specs.declared.going.Going.{Going}
-use Rattle.steps.specs.declared.view.View.{View}
-use Rattle.steps.specs.declared.view.Permitted.{Permitted}
-use Rattle.steps.specs.declared.view.Permitted.the-variants.{Yes, No}
+use Rattle.going.specs.declared.Going.{Going}
+use Rattle.view.specs.declared.View.{View}
+use Rattle.steps.specs.declared.Permitted.{Permitted}
+use Rattle.steps.specs.declared.Permitted.the-variants.{Yes, No}
 use Rattle.steps.specs.Steps.{stepOf, andThen, stepsOver, stepsFrom}
-use Rattle.steps.specs.View.{viewOf, stepBy}
-use Rattle.steps.specs.Going.{beginGoing, nextGoing, current, leftIn, Stands, Goes}
-use Rattle.steps.proofs.Left.{left-begin, left-next, left-over}
-use Rattle.steps.proofs.Stepping.{step-on}
+use Rattle.view.specs.View.{viewOf, stepBy}
+use Rattle.going.specs.Going.{beginGoing, nextGoing, current, leftIn, Stands, Goes}
+use Rattle.going.proofs.Left.{left-begin, left-next, left-over}
+use Rattle.going.proofs.Stepping.{step-on}
 use Rattle.judge.specs.Seek.{soughtAt}
 
 -- ---- one step first

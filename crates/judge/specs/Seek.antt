@@ -6,8 +6,8 @@ use Rattle.route.specs.declared.Sought.{Sought}
 use Rattle.route.specs.declared.Sought.the-variants.{Found, Missing}
 use Rattle.route.specs.Record.{stepBytes}
 use Rattle.route.specs.Judge.{sameBytes}
-use Rattle.steps.specs.declared.view.Permitted.{Permitted}
-use Rattle.steps.specs.declared.view.Permitted.the-variants.{Yes, No}
+use Rattle.steps.specs.declared.Permitted.{Permitted}
+use Rattle.steps.specs.declared.Permitted.the-variants.{Yes, No}
 
 unfoldable pub soughtAt : Permitted → List ℕ → Sought
 soughtAt (Yes step) bytes = cond (sameBytes bytes (stepBytes step)) (Found step) Missing

@@ -13,8 +13,8 @@ use floor::Look;
 use floor::Refusal;
 use floor::SLOTS;
 use helpers::Point;
+use records::Record;
 use route::Judged;
-use route::Record;
 use route::Sought;
 use steps::Node;
 
@@ -59,7 +59,7 @@ pub fn judge_route(
     requires { ⌜ Ready slots (now vertices) (now polygons) (now marks) × (from < length (now polygons) / (slots * 8)) ⌝ }
     ensures { λ r. ⌜ r ≡ judgeOf (worldIn (floorOf slots (now (vertices .entry)) (now (polygons .entry))) (asked start goal) from to) (now (route .entry)) ⌝ }
 {
-    if !route::length_right(route) {
+    if !records::length_right(route) {
         return Judged::Length;
     }
     let seed = Record::seed(from, start);

@@ -8,14 +8,13 @@ ghost use Rattle.floor.specs.Where.{marksOf};
 ghost use Rattle.route.specs.Record.{recordAt};
 ghost use Rattle.route.specs.Judge.{findStep};
 ghost use Rattle.steps.specs.Steps.{stepsFrom};
-ghost use Rattle.steps.specs.Going.{Stands};
+ghost use Rattle.going.specs.Going.{Stands};
 ghost use Rattle.judge.specs.Seek.{soughtAt};
-use route::Record;
+use records::Record;
 use route::Sought;
 use steps::Node;
-use steps::going;
-use steps::view::Permitted;
-use steps::view::View;
+use steps::Permitted;
+use view::View;
 
 // The step, if there is one and the record is it.
 fn step_at(permitted: Permitted, route: &[u8], i: usize) -> Sought

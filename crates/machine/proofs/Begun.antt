@@ -16,8 +16,8 @@ use Rattle.route.specs.World.{_∈_}
 use Rattle.route.specs.declared.Step.{Step}
 use Rattle.steps.specs.declared.Node.{Node}
 use Rattle.steps.specs.Steps.{stepsFrom, seedNode}
-use Rattle.steps.specs.Going.{Stands}
-use Rattle.steps.proofs.Stands.{seed-stands}
+use Rattle.going.specs.Going.{Stands}
+use Rattle.going.proofs.Stands.{seed-stands}
 use Rattle.queue.specs.Queue.{none, Tree}
 use Rattle.queue.proofs.Change.{queued-is, tree-of-own}
 use Rattle.queue.proofs.Lent.{cleared-length, cleared-tree}

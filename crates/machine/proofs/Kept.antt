@@ -21,9 +21,9 @@ use Rattle.route.specs.Step.{kindNumber}
 use Rattle.route.specs.World.{_∈_}
 use Rattle.steps.specs.declared.Node.{Node}
 use Rattle.steps.specs.Steps.{stepsFrom, enter, rootAfter}
-use Rattle.steps.specs.Going.{Stands}
+use Rattle.going.specs.Going.{Stands}
 use Rattle.steps.specs.World.{isInGoal}
-use Rattle.steps.proofs.Stands.{enter-stands}
+use Rattle.going.proofs.Stands.{enter-stands}
 use Rattle.queue.specs.Queue.{none, put}
 use Rattle.queue.specs.Words.{queuedIn, placed}
 use Rattle.queue.proofs.Words.{tree-same}

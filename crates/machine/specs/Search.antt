@@ -12,8 +12,8 @@ use Rattle.floor.specs.Stored.{Floor}
 use Rattle.route.specs.declared.Step.{Step}
 use Rattle.route.specs.Step.{kindNumber}
 use Rattle.steps.specs.declared.Node.{Node}
-use Rattle.steps.specs.declared.view.Permitted.{Permitted}
-use Rattle.steps.specs.declared.view.Permitted.the-variants.{Yes, No}
+use Rattle.steps.specs.declared.Permitted.{Permitted}
+use Rattle.steps.specs.declared.Permitted.the-variants.{Yes, No}
 use Rattle.steps.specs.Steps.{stepsFrom, seedNode, enter}
 use Rattle.steps.specs.World.{isInGoal}
 use Rattle.queue.specs.Queue.{none}

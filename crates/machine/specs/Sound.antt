@@ -13,7 +13,7 @@ use Rattle.floor.specs.Where.{marksOf}
 use Rattle.route.specs.World.{_∈_}
 use Rattle.steps.specs.declared.Node.{Node}
 use Rattle.steps.specs.Steps.{stepsFrom, enter}
-use Rattle.steps.specs.Going.{Stands}
+use Rattle.going.specs.Going.{Stands}
 use Rattle.queue.specs.Queue.{Tree, NoNan}
 use Rattle.machine.specs.declared.Task.{Task}
 use Rattle.machine.specs.declared.Origin.{Origin}

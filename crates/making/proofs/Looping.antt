@@ -8,10 +8,10 @@ use lib.Dec.{eqb}
 use lib.ListN.{length}
 use Rattle.walk.specs.Turns.{isOverOf}
 use Rattle.floor.specs.Stored.{Floor, floorOf}
-use Rattle.steps.specs.declared.going.Going.{Going}
+use Rattle.going.specs.declared.Going.{Going}
 use Rattle.steps.specs.Steps.{stepOf, stepsOver, stepsFrom}
-use Rattle.steps.specs.Going.{current, leftIn, beginGoing, nextGoing, Stands, Goes}
-use Rattle.steps.proofs.Left.{begin-goes, next-goes, left-next}
+use Rattle.going.specs.Going.{current, leftIn, beginGoing, nextGoing, Stands, Goes}
+use Rattle.going.proofs.Left.{begin-goes, next-goes, left-next}
 use Rattle.machine.specs.declared.Task.{Task}
 use Rattle.machine.specs.declared.Origin.{Origin}
 use Rattle.machine.specs.Search.{State, Making, making, madeIf, madeAll}

@@ -12,16 +12,16 @@ use Rattle.floor.proofs.Records.{polygon-is}
 use Rattle.floor.proofs.Inside.{slot-inside}
 use Rattle.route.specs.declared.Step.{Step}
 use Rattle.steps.specs.declared.Node.{Node}
-use Rattle.steps.specs.declared.view.View.{View}
-use Rattle.steps.specs.declared.view.Permitted.{Permitted}
-use Rattle.steps.specs.declared.view.Permitted.the-variants.{Yes, No}
-use Rattle.steps.specs.declared.going.Going.{Going}
+use Rattle.view.specs.declared.View.{View}
+use Rattle.steps.specs.declared.Permitted.{Permitted}
+use Rattle.steps.specs.declared.Permitted.the-variants.{Yes, No}
+use Rattle.going.specs.declared.Going.{Going}
 use Rattle.steps.specs.Steps.{stepOf, stepsOver, stepsFrom}
-use Rattle.steps.specs.View.{viewOf, stepBy}
-use Rattle.steps.specs.Going.{current, leftIn, beginGoing, nextGoing, Stands, Goes}
-use Rattle.steps.proofs.Rounds.{turning}
-use Rattle.steps.proofs.Left.{part-below-three, left-next, left-begin, left-over}
-use Rattle.steps.proofs.Seen.{step-by-view}
+use Rattle.view.specs.View.{viewOf, stepBy}
+use Rattle.going.specs.Going.{current, leftIn, beginGoing, nextGoing, Stands, Goes}
+use Rattle.going.proofs.Rounds.{turning}
+use Rattle.going.proofs.Left.{part-below-three, left-next, left-begin, left-over}
+use Rattle.view.proofs.Seen.{step-by-view}
 use Rattle.machine.specs.declared.Task.{Task}
 use Rattle.machine.specs.declared.Origin.{Origin}
 use Rattle.machine.specs.Search.{State, Making, making, made, madeIf, madeAll}

@@ -12,11 +12,12 @@ ghost use lib.Ieee.{isNan};
 ghost use Rattle.walk.specs.Turns.{isOverOf};
 ghost use Rattle.floor.specs.Stored.{floorOf};
 ghost use Rattle.steps.specs.Steps.{stepOf, stepsFrom};
-ghost use Rattle.steps.specs.View.{viewOf};
-ghost use Rattle.steps.specs.Going.{current, Goes};
+ghost use Rattle.view.specs.View.{viewOf};
+ghost use Rattle.going.specs.Going.{current, Goes};
 ghost use Rattle.places.specs.Layout.{workOf, Room};
 ghost use Rattle.machine.specs.Search.{stateOf, making, kept, taken, made, madeIf, madeAll};
 ghost use Rattle.machine.specs.Sound.{Ground, Fit, Leaves};
+use going::Going;
 use machine::Counts;
 use machine::Made;
 use machine::Origin;
@@ -30,9 +31,8 @@ use places::record_distance;
 use places::record_for;
 use route::Step;
 use steps::Node;
-use steps::going::Going;
-use steps::view::Permitted;
-use steps::view::View;
+use steps::Permitted;
+use view::View;
 
 fn is_nan(x: f32) -> bool
     ensures { λ r. ⌜ r ≡ isNan x ⌝ }
@@ -204,7 +204,7 @@ pub fn make_steps(
     let node = from.node;
     let slots = task.slots;
     let view = View::new(vertices, polygons, slots, marks, node);
-    let mut going = steps::going::begin(vertices, polygons, slots, node);
+    let mut going = going::begin(vertices, polygons, slots, node);
     let mut counts = counts;
     while !going.is_over() {
         let made = make_part(

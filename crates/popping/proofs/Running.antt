@@ -11,7 +11,7 @@ use Rattle.helpers.specs.declared.point.Point.{Point}
 use Rattle.floor.specs.Stored.{Floor, floorOf}
 use Rattle.steps.specs.declared.Node.{Node}
 use Rattle.steps.specs.Steps.{stepsFrom, seedNode}
-use Rattle.steps.proofs.Stands.{seed-stands}
+use Rattle.going.proofs.Stands.{seed-stands}
 use Rattle.queue.specs.Queue.{none}
 use Rattle.machine.specs.declared.Task.{Task}
 use Rattle.machine.specs.declared.Origin.{Origin}

@@ -23,8 +23,8 @@ use helpers::Turn;
 use judge::Verdict;
 use judge::judge_route;
 use judge::seek;
+use records::Record;
 use route::Judged;
-use route::Record;
 use route::Sought;
 use steps::Node;
 

@@ -1,8 +1,6 @@
 -- The laws of the route file that belong to no one function. Verdicts is the one to read.
 pub mod Bytes
 pub mod Find
-pub mod Stored
-pub mod Known
 pub mod Turns
 pub mod Trails
 pub mod Verdicts

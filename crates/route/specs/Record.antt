@@ -8,7 +8,6 @@ use lib.Seq.{sets}
 use Rattle.word.specs.Word.{bytesOf}
 use Rattle.helpers.specs.declared.point.Point.{Point}
 use Rattle.route.specs.declared.Step.{Step}
-use Rattle.route.specs.declared.Record.{Record}
 use Rattle.route.specs.Step.{kindNumber}
 
 -- the bytes of words, each word's lowest byte first
@@ -63,17 +62,3 @@ records file = length file / 32
 -- the file after a record's bytes were stored as the one with this number
 unfoldable pub putRecord : List ℕ → ℕ → List ℕ → List ℕ
 putRecord file i bytes = sets file (i * 32) bytes
-
--- ---- the same as the code has them, by value
-
-unfoldable pub recordBytes : Record → List ℕ
-recordBytes r = wordsBytes (r .words)
-
-unfoldable pub seedRecord : ℕ → Point → Record
-seedRecord polygon start = record { words = seedWords polygon start }
-
-unfoldable pub stepRecord : Step → Record
-stepRecord s = record { words = stepWords s }
-
-unfoldable pub endRecord : ℕ → Point → Float → Record
-endRecord points goal len = record { words = endWords points goal len }

@@ -1,12 +1,10 @@
-// The route file: its records, what a step is in it, and what the judge may say of it.
+// The route file: what a step is in it, and what the judge may say of it.
 
 ghost use mathlib.Core.Path.{_≡_};
 ghost use Rattle.route.specs.Step.{kindNumber};
-ghost use Rattle.route.specs.Judge.{lengthRight, judgedNumber};
+ghost use Rattle.route.specs.Judge.{judgedNumber};
 use helpers::Segment;
 use walk::SuccessorType;
-
-mod records;
 
 // A step as the route file has it: how the interval is seen, the polygon that is entered, the two vertices of the edge as
 // the polygon that is left has it, and the interval from its right end to its left end.
@@ -36,22 +34,6 @@ pub enum Judged {
     NotStep(usize),
     // 23: this record, the last, is not the true end, or the one before it is not in the goal polygon.
     NotEnd(usize),
-}
-
-// A record of the route file: eight words, 32 bytes little-endian.
-pub struct Record {
-    pub words: [u32; 8],
-}
-
-// The most records of a route file.
-const MOST_RECORDS: usize = 4097;
-
-// 20: whole records, from 2 to 4,097.
-pub fn length_right(route: &[u8]) -> bool
-    ensures { λ r. ⌜ r ≡ lengthRight (now (route .entry)) ⌝ }
-{
-    let count = route.len() / Record::BYTES;
-    route.len() % Record::BYTES == 0 && (2 <= count && count <= MOST_RECORDS)
 }
 
 // The number of a step's kind in its record.

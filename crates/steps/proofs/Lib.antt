@@ -1,11 +1,5 @@
 pub mod All
-pub mod Rounds
-pub mod Corners
-pub mod Left
-pub mod Seen
-pub mod Stepping
 pub mod Made
-pub mod Stands
 pub mod Held
 pub mod World
 pub mod Examples

@@ -14,8 +14,8 @@ use Rattle.floor.specs.Stored.{Floor, unused, corner, neighbour, cornerAfter, p
 use Rattle.route.specs.declared.Step.{Step}
 use Rattle.route.specs.World.{_∈_}
 use Rattle.steps.specs.declared.Node.{Node}
-use Rattle.steps.specs.declared.view.Permitted.{Permitted}
-use Rattle.steps.specs.declared.view.Permitted.the-variants.{Yes, No}
+use Rattle.steps.specs.declared.Permitted.{Permitted}
+use Rattle.steps.specs.declared.Permitted.the-variants.{Yes, No}
 use Rattle.steps.specs.Steps.{isInterval, isAllowed, clipped, ifSeen, stepOf, candidates, andThen, stepsOver, stepsFrom}
 use Rattle.walk.proofs.All.{All, all-in}
 

@@ -18,7 +18,7 @@ use Rattle.route.specs.Step.{Held}
 use Rattle.route.specs.World.{Lawful, _∈_}
 use Rattle.route.proofs.Bytes.{seed-is-32, end-is-32}
 use Rattle.steps.specs.declared.Node.{Node}
-use Rattle.steps.specs.declared.view.Permitted.the-variants.{Yes}
+use Rattle.steps.specs.declared.Permitted.the-variants.{Yes}
 use Rattle.steps.specs.Steps.{stepOf, stepsFrom, candidates}
 use Rattle.steps.specs.World.{isInGoal, worldIn}
 use Rattle.walk.proofs.All.{all-turned}

@@ -19,8 +19,8 @@ use Rattle.floor.specs.Stored.{Floor, Polygon, unused, corner, neighbour, corne
 use Rattle.floor.specs.Where.{isTurn}
 use Rattle.route.specs.declared.Step.{Step}
 use Rattle.steps.specs.declared.Node.{Node}
-use Rattle.steps.specs.declared.view.Permitted.{Permitted}
-use Rattle.steps.specs.declared.view.Permitted.the-variants.{Yes, No}
+use Rattle.steps.specs.declared.Permitted.{Permitted}
+use Rattle.steps.specs.declared.Permitted.the-variants.{Yes, No}
 
 -- ---- intervals
 

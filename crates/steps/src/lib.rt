@@ -12,9 +12,6 @@ use helpers::Turn;
 use route::Step;
 use walk::SuccessorType;
 
-pub mod going;
-pub mod view;
-
 // Where steps lead to: the polygon, the edge and the interval that it was entered by, the root, which is the last point
 // where the way turned, and how long the way to it is and how many points it has. The seed, where every route begins, was
 // entered by nothing.
@@ -33,6 +30,12 @@ pub struct Node {
 pub struct Ending {
     pub points: u32,
     pub length: f32,
+}
+
+// The step over a part of an edge, if there is one.
+pub enum Permitted {
+    Yes(Step),
+    No,
 }
 
 impl Node {

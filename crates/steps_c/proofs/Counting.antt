@@ -13,15 +13,15 @@ use Rattle.walk.specs.Turns.{isOverOf}
 use Rattle.floor.specs.Stored.{Floor, floorOf, polygonAt}
 use Rattle.route.specs.declared.Step.{Step}
 use Rattle.steps.specs.declared.Node.{Node}
-use Rattle.steps.specs.declared.going.Going.{Going}
-use Rattle.steps.specs.declared.view.View.{View}
-use Rattle.steps.specs.declared.view.Permitted.{Permitted}
-use Rattle.steps.specs.declared.view.Permitted.the-variants.{Yes, No}
+use Rattle.going.specs.declared.Going.{Going}
+use Rattle.view.specs.declared.View.{View}
+use Rattle.steps.specs.declared.Permitted.{Permitted}
+use Rattle.steps.specs.declared.Permitted.the-variants.{Yes, No}
 use Rattle.steps.specs.Steps.{stepOf, andThen, stepsOver, stepsFrom}
-use Rattle.steps.specs.View.{viewOf, stepBy}
-use Rattle.steps.specs.Going.{beginGoing, nextGoing, current, leftIn, Stands, Goes}
-use Rattle.steps.proofs.Left.{left-begin, left-next, left-over}
-use Rattle.steps.proofs.Stepping.{step-on}
+use Rattle.view.specs.View.{viewOf, stepBy}
+use Rattle.going.specs.Going.{beginGoing, nextGoing, current, leftIn, Stands, Goes}
+use Rattle.going.proofs.Left.{left-begin, left-next, left-over}
+use Rattle.going.proofs.Stepping.{step-on}
 use Rattle.steps_c.specs.declared.kth.Counted.{Counted}
 use Rattle.steps_c.specs.declared.kth.Counted.the-variants.{Here, Further}
 use Rattle.steps_c.specs.Kth.{kth, countedOf}

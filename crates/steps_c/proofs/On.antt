@@ -14,7 +14,7 @@ use Rattle.floor.proofs.Records.{polygon-count, vertex-count, polygon-is}
 use Rattle.floor.proofs.Inside.{listed-of}
 use Rattle.steps.specs.declared.Node.{Node}
 use Rattle.steps.specs.Steps.{placeOf, entryOf}
-use Rattle.steps.specs.Going.{Stands}
+use Rattle.going.specs.Going.{Stands}
 use Rattle.steps_c.specs.Ask.{isEntered, isOn}
 
 -- ---- what a test that holds says

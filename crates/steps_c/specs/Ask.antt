@@ -11,8 +11,8 @@ use Rattle.floor.specs.Stored.{Floor, Polygon, floorOf, cornerCount, polygon}
 use Rattle.floor.specs.Look.{floorLookOf, refusalNumber}
 use Rattle.route.specs.Record.{stepWords}
 use Rattle.steps.specs.declared.Node.{Node}
-use Rattle.steps.specs.declared.view.Permitted.{Permitted}
-use Rattle.steps.specs.declared.view.Permitted.the-variants.{Yes, No}
+use Rattle.steps.specs.declared.Permitted.{Permitted}
+use Rattle.steps.specs.declared.Permitted.the-variants.{Yes, No}
 use Rattle.steps.specs.Steps.{placeOf, stepsFrom}
 use Rattle.steps_c.specs.declared.Answer.{Answer}
 use Rattle.steps_c.specs.declared.Answer.the-variants.{Given, NoMore, Nowhere, Refused}

@@ -6,14 +6,13 @@ ghost use lib.ListN.{length};
 ghost use Rattle.floor.specs.Stored.{floorOf};
 ghost use Rattle.floor.specs.Where.{marksOf};
 ghost use Rattle.steps.specs.Steps.{stepsFrom};
-ghost use Rattle.steps.specs.Going.{Stands};
+ghost use Rattle.going.specs.Going.{Stands};
 ghost use Rattle.steps_c.specs.Kth.{kth, countedOf};
 use floor::SLOTS;
 use route::Step;
 use steps::Node;
-use steps::going;
-use steps::view::Permitted;
-use steps::view::View;
+use steps::Permitted;
+use view::View;
 
 // Whether the step that is sought is here, or which of those behind it is.
 enum Counted {

@@ -11,10 +11,10 @@ use floor::FloorLook;
 use floor::Refusal;
 use helpers::Point;
 use helpers::Segment;
-use route::Record;
+use records::Record;
 use route::Step;
 use steps::Node;
-use steps::view::Permitted;
+use steps::Permitted;
 
 mod kth;
 mod stand;

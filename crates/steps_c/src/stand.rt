@@ -18,7 +18,7 @@ fn is_entered(polygons: &[u8], node: Node) -> bool
     }
     let p = node.polygon as usize;
     let n = floor::stored::corner_count(polygons, SLOTS, p);
-    steps::going::place_of(polygons, SLOTS, p, n, node.second) < n
+    going::place_of(polygons, SLOTS, p, n, node.second) < n
 }
 
 // The polygon is listed, and so are both vertices of the entry edge, which is one of the polygon's.

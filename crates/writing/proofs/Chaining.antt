@@ -5,10 +5,11 @@ use mathlib.Core.Path.{_≡_, refl, sym, ap, _∙_}
 use mathlib.Core.List.{List}
 use lib.Ieee.{Float}
 use lib.ListN.{length}
-use Rattle.route.specs.declared.Record.{Record}
+use Rattle.records.specs.declared.Record.{Record}
 use Rattle.route.specs.declared.Step.{Step}
-use Rattle.route.specs.Record.{stepBytes, stepRecord, recordBytes, putRecord}
-use Rattle.route.proofs.Stored.{step-record-bytes, put-keeps-length}
+use Rattle.route.specs.Record.{stepBytes, putRecord}
+use Rattle.records.specs.Records.{stepRecord, recordBytes}
+use Rattle.records.proofs.Stored.{step-record-bytes, put-keeps-length}
 use Rattle.places.specs.Layout.{stepIn, parentIn}
 use Rattle.writing.specs.Writing.{putChain, Row, Lies}
 

@@ -9,9 +9,10 @@ use lib.Ieee.{Float}
 use lib.ListN.{length, take, drop, length-append, length-drop, take-append-drop}
 use lib.Seq.{sets-eq, take-at, drop-at, length-take-le, drop-drop}
 use Rattle.helpers.specs.declared.point.Point.{Point}
-use Rattle.route.specs.declared.Record.{Record}
-use Rattle.route.specs.Record.{seedBytes, stepBytes, endBytes, seedRecord, endRecord, recordBytes, putRecord}
-use Rattle.route.proofs.Stored.{seed-record-bytes, end-record-bytes, put-keeps-length}
+use Rattle.records.specs.declared.Record.{Record}
+use Rattle.route.specs.Record.{seedBytes, stepBytes, endBytes, putRecord}
+use Rattle.records.specs.Records.{seedRecord, endRecord, recordBytes}
+use Rattle.records.proofs.Stored.{seed-record-bytes, end-record-bytes, put-keeps-length}
 use Rattle.route.proofs.Bytes.{seed-is-32, step-is-32, end-is-32}
 use Rattle.steps.specs.declared.Node.{Node}
 use Rattle.steps.specs.Steps.{seedNode}

@@ -5,7 +5,7 @@ ghost use mathlib.Core.Path.{_≡_};
 ghost use mathlib.Core.List.{List};
 ghost use Prim.Native.Nat.{ℕ, _+_, _*_, _≤_, _<_, _^_};
 ghost use lib.ListN.{length};
-ghost use Rattle.route.specs.Record.{endRecord};
+ghost use Rattle.records.specs.Records.{endRecord};
 ghost use Rattle.steps.specs.World.{endingOf};
 ghost use Rattle.places.specs.Layout.{workOf};
 ghost use Rattle.machine.specs.Search.{stateOf, ending};
@@ -21,7 +21,7 @@ use places::depth_at;
 use places::node_at;
 use places::parent_at;
 use places::step_at;
-use route::Record;
+use records::Record;
 use steps::Node;
 
 // What a search answers. Each but Refused and NoPlaces has the counted steps, which are 0 for those two.

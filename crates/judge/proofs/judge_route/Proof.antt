@@ -11,7 +11,7 @@ use Rattle.floor.specs.Stored.{floorOf}
 use Rattle.route.specs.Record.{recordAt}
 use Rattle.route.specs.Judge.{lengthRight}
 use Rattle.route.proofs.Turns.{length-gives, begins-length, begins-wrong}
-use Rattle.route.proofs.Stored.{seed-tested}
+use Rattle.records.proofs.Stored.{seed-tested}
 use Rattle.steps.specs.World.{worldIn}
 use Rattle.judge.specs.Verdict.{asked}
 use Rattle.judge.proofs.Following.{Follows, follows-begin, follows-on, follows-stops, follows-ends}

@@ -5,7 +5,7 @@ use Prim.Native.Nat.{_*_, _/_, _<_}
 use mathlib.Core.Path.{sym, subst}
 use lib.ListN.{length}
 use Rattle.floor.specs.Stored.{floorOf}
-use Rattle.steps.specs.declared.view.View.{View}
+use Rattle.view.specs.declared.View.{View}
 use Rattle.places.specs.Layout.{workOf}
 use Rattle.machine.specs.Search.{stateOf}
 use Rattle.making.proofs.Parts.{part-in, edge-in, step-is, viewed, made-by-step, made-by-none}

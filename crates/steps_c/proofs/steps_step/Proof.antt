@@ -1,8 +1,8 @@
 -- `steps_c::steps_step` meets its contract: each answer's number and words. Assumes nothing.
 use mathlib.Core.Path.{refl, ap}
 use borrow.Author.Needs.{needs}
-use Rattle.route.specs.declared.Record.{Record}
-use Rattle.route.specs.Record.{stepRecord}
+use Rattle.records.specs.declared.Record.{Record}
+use Rattle.records.specs.Records.{stepRecord}
 use Rattle.steps_c.specs.Ask.{answerNumber, answerWritten}
 use Rattle.steps_c.proofs.steps_step.Statement.{statement}
 use Rattle.steps_c.proofs.steps_step.Tie as tie

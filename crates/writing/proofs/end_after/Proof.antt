@@ -1,6 +1,6 @@
 -- `end_after` meets its contract. Assumes nothing.
 use mathlib.Core.Path.{ap, _∙_}
-use Rattle.route.specs.Record.{endRecord}
+use Rattle.records.specs.Records.{endRecord}
 use Rattle.steps.specs.declared.Ending.{Ending}
 use borrow.Author.Needs.{needs}
 use Rattle.writing.proofs.end_after.Statement.{statement}

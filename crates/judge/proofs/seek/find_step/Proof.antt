@@ -7,11 +7,11 @@ use borrow.Author.Tests.{not-true, not-false}
 use denote.Ref.{now}
 use Rattle.floor.specs.Stored.{floorOf}
 use Rattle.route.specs.Record.{recordAt}
-use Rattle.steps.specs.declared.going.Going.{Going}
-use Rattle.steps.specs.View.{viewOf}
-use Rattle.steps.specs.Going.{leftIn, Goes}
-use Rattle.steps.proofs.Left.{begin-goes, next-goes, part-below-three}
-use Rattle.steps.proofs.Stepping.{viewed-polygon, edge-inside, less-left}
+use Rattle.going.specs.declared.Going.{Going}
+use Rattle.view.specs.View.{viewOf}
+use Rattle.going.specs.Going.{leftIn, Goes}
+use Rattle.going.proofs.Left.{begin-goes, next-goes, part-below-three}
+use Rattle.going.proofs.Stepping.{viewed-polygon, edge-inside, less-left}
 use Rattle.judge.proofs.Seeking.{none-in-goal, Sought-in, seeking-begins, seeking-ends, seeking-finds, seeking-goes-on}
 use Rattle.judge.proofs.seek.find_step.Statement.{statement}
 use Rattle.judge.proofs.seek.find_step.Tie as tie

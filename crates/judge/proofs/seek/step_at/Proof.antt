@@ -1,7 +1,7 @@
 -- `seek::step_at` meets its contract. Assumes nothing.
 use borrow.Author.Needs.{needs}
 use Rattle.route.specs.Record.{recordAt}
-use Rattle.route.proofs.Stored.{step-tested}
+use Rattle.records.proofs.Stored.{step-tested}
 use Rattle.judge.specs.Seek.{soughtAt}
 use Rattle.judge.proofs.seek.step_at.Statement.{statement}
 use Rattle.judge.proofs.seek.step_at.Tie as tie

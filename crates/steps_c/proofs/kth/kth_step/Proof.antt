@@ -7,11 +7,11 @@ use lib.ListN.{length}
 use borrow.Author.Needs.{needs}
 use borrow.Author.Tests.{not-true, not-false}
 use Rattle.floor.specs.Stored.{floorOf}
-use Rattle.steps.specs.declared.going.Going.{Going}
-use Rattle.steps.specs.View.{viewOf}
-use Rattle.steps.specs.Going.{leftIn, Goes}
-use Rattle.steps.proofs.Left.{begin-goes, next-goes, part-below-three}
-use Rattle.steps.proofs.Stepping.{viewed-polygon, edge-inside, less-left}
+use Rattle.going.specs.declared.Going.{Going}
+use Rattle.view.specs.View.{viewOf}
+use Rattle.going.specs.Going.{leftIn, Goes}
+use Rattle.going.proofs.Left.{begin-goes, next-goes, part-below-three}
+use Rattle.going.proofs.Stepping.{viewed-polygon, edge-inside, less-left}
 use Rattle.steps_c.proofs.Counting.{none-in-goal, Counted-in, counting-begins, counting-ends, counting-finds, counting-goes-on}
 use Rattle.steps_c.proofs.kth.kth_step.Statement.{statement}
 use Rattle.steps_c.proofs.kth.kth_step.Tie as tie

@@ -1,0 +1,48 @@
+use Prim.Native.Nat.{ℕ, _≤_, _<_, _-_}
+use Rattle.counts.proofs.Laws.{first-is}
+use borrow.Author.Count.{below-none, below-more}
+use borrow.Author.Needs.{needs}
+use borrow.Author.Tests.{eq-eqb}
+use borrow.Author.Tests.{ne-eqb}
+use mathlib.Core.Path.{_≡_, sym}
+use native.Mathlib.Omega.{arith}
+use Rattle.steps.specs.Steps.{placeOf}
+use Rattle.floor.specs.Stored.{polygonAt, corner}
+use mathlib.Core.Bool.{false}
+use lib.Dec.{eqb}
+use Rattle.going.proofs.place_of.Statement.{statement}
+use Rattle.going.proofs.place_of.Tie as tie
+
+abbrev Inv-loop : tie.InvT-loop
+Inv-loop polygons slots p n v i₀ i = (i ≤ n) × ((k : ℕ) → k < i → eqb (corner (polygonAt slots polygons p) k) v ≡ false)
+
+abbrev μ-loop : tie.MeasureT-loop
+μ-loop polygons slots p n v i₀ i = n - i
+
+loop-holds : tie.Need-loop-holds Inv-loop μ-loop
+loop-holds c = (omega arith, below-none _)
+
+corner-requires : tie.Need-corner-requires Inv-loop μ-loop
+corner-requires c κs = search needs
+
+returns : tie.Need-returns Inv-loop μ-loop
+unfolding placeOf
+returns c = sym (first-is _ _ _ (omega arith) (c .before .before .before .loop .inv .1) (λ l. rw (← c .before .corner .ensures, eq-eqb _ _ (c .if1 .taken))))
+
+add-i : tie.Need-add-i Inv-loop μ-loop
+add-i c = omega arith
+
+loop-less : tie.Need-loop-less Inv-loop μ-loop
+loop-less c = omega arith
+
+loop-again : tie.Need-loop-again Inv-loop μ-loop
+loop-again c = (omega arith, below-more _ _ (c .before .before .before .loop .inv .1) (rw (← c .before .corner .ensures, ne-eqb _ _ (c .if1 .left))))
+
+returns-2 : tie.Need-returns-2 Inv-loop μ-loop
+unfolding placeOf
+returns-2 c = sym (first-is _ _ _ (omega arith) (λ k l. c .before .loop .inv .1 k (omega arith)) (λ l. absurd (omega arith)))
+
+pub place-of-spec : {M : Type 1} → statement M
+place-of-spec =
+    tie.close
+    (tie.spec Inv-loop μ-loop loop-holds corner-requires returns add-i loop-less loop-again returns-2)

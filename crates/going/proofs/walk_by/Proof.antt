@@ -1,0 +1,27 @@
+use borrow.Author.Needs.{needs}
+use Rattle.going.specs.Going.{walkBy}
+use Rattle.going.proofs.walk_by.Statement.{statement}
+use Rattle.going.proofs.walk_by.Tie as tie
+
+whole-requires : tie.Need-whole-requires
+whole-requires c κs = search needs
+
+returns : tie.Need-returns
+unfolding walkBy
+returns c =
+    let c1 = c .before in
+    rw (c1 .if1 .taken, ← c .whole .ensures)
+
+walk-edge-requires : tie.Need-walk-edge-requires
+walk-edge-requires c κs = search needs
+
+returns-2 : tie.Need-returns-2
+unfolding walkBy
+returns-2 c =
+    let c3 = c .before .before .before in
+    rw (c3 .if1 .left, ← c .walk-edge .ensures)
+
+pub walk-by-spec : {M : Type 1} → statement M
+walk-by-spec =
+    tie.close
+    (tie.spec whole-requires returns walk-edge-requires returns-2)

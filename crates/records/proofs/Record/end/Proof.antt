@@ -1,0 +1,26 @@
+use borrow.Author.Needs.{needs}
+use Rattle.route.specs.Record.{endWords}
+use Rattle.records.specs.Records.{endRecord}
+use Rattle.records.proofs.Record.end.Statement.{statement}
+use Rattle.records.proofs.Record.end.Tie as tie
+
+to-bits-requires : tie.Need-to-bits-requires
+to-bits-requires c κs = search needs
+
+to-bits-requires-2 : tie.Need-to-bits-requires-2
+to-bits-requires-2 c κs = search needs
+
+to-bits-requires-3 : tie.Need-to-bits-requires-3
+to-bits-requires-3 c κs = search needs
+
+returns : tie.Need-returns
+unfolding endRecord endWords
+returns c =
+    let c1 = c .before in
+    let c2 = c1 .before in
+    rw (← c2 .to-bits .ensures, ← c1 .to-bits2 .ensures, ← c .to-bits3 .ensures)
+
+pub end-spec : {M : Type 1} → statement M
+end-spec =
+    tie.close
+    (tie.spec to-bits-requires to-bits-requires-2 to-bits-requires-3 returns)

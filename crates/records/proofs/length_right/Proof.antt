@@ -1,0 +1,29 @@
+use borrow.Author.Tests.{eq-eqb}
+use borrow.Author.Tests.{le-leb}
+use borrow.Author.Tests.{lt-leb}
+use borrow.Author.Tests.{ne-eqb}
+use Rattle.route.specs.Record.{records}
+use Rattle.route.specs.Judge.{lengthRight}
+use Rattle.records.proofs.length_right.Statement.{statement}
+use Rattle.records.proofs.length_right.Tie as tie
+
+returns : tie.Need-returns
+unfolding lengthRight records
+returns c =
+    let c1 = c .before in
+    rw (eq-eqb _ _ (c1 .if1 .taken), le-leb _ _ (c .if2 .taken))
+
+returns-2 : tie.Need-returns-2
+unfolding lengthRight records
+returns-2 c =
+    let c1 = c .before in
+    rw (eq-eqb _ _ (c1 .if1 .taken), lt-leb _ _ (c .if2 .left))
+
+returns-3 : tie.Need-returns-3
+unfolding lengthRight records
+returns-3 c = rw (ne-eqb _ _ (c .if1 .left))
+
+pub length-right-spec : {M : Type 1} → statement M
+length-right-spec =
+    tie.close
+    (tie.spec returns returns-2 returns-3)

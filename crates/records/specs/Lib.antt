@@ -1,0 +1,2 @@
+-- The records of the route file by value.
+pub mod Records

@@ -1,0 +1,118 @@
+// The records by value: made, compared with the bytes of a lent file, and written into lent bytes. Nothing is allocated.
+
+ghost use mathlib.Core.Path.{_≡_};
+ghost use Prim.Native.Nat.{_+_, _*_, _≤_};
+ghost use lib.ListN.{length};
+ghost use Rattle.route.specs.Record.{recordAt, putRecord};
+ghost use Rattle.route.specs.Judge.{sameBytes, lengthRight};
+ghost use Rattle.records.specs.Records.{recordBytes, seedRecord, stepRecord, endRecord};
+use helpers::Point;
+use route::Step;
+use route::kind_number;
+
+// A record of the route file: eight words, 32 bytes little-endian.
+pub struct Record {
+    pub words: [u32; 8],
+}
+
+// The most records of a route file.
+const MOST_RECORDS: usize = 4097;
+
+impl Record {
+    // How many bytes a record is.
+    pub const BYTES: usize = 32;
+
+    // Where every route begins: in this polygon, at this point.
+    pub fn seed(polygon: u32, start: Point) -> Record
+        ensures { λ r. ⌜ r ≡ seedRecord polygon start ⌝ }
+    {
+        Record {
+            words: [
+                1,
+                polygon,
+                float::to_bits(start.x),
+                float::to_bits(start.y),
+                0,
+                0,
+                0,
+                0,
+            ],
+        }
+    }
+
+    // How a route ends: how many points it has, where the last of them is, and how long it is.
+    pub fn end(points: u32, goal: Point, length: f32) -> Record
+        ensures { λ r. ⌜ r ≡ endRecord points goal length ⌝ }
+    {
+        Record {
+            words: [
+                5,
+                points,
+                float::to_bits(goal.x),
+                float::to_bits(goal.y),
+                float::to_bits(length),
+                0,
+                0,
+                0,
+            ],
+        }
+    }
+
+    // A step.
+    pub fn step(step: Step) -> Record
+        ensures { λ r. ⌜ r ≡ stepRecord step ⌝ }
+    {
+        let kind = step.kind;
+        let right = step.interval.0;
+        let left = step.interval.1;
+        Record {
+            words: [
+                kind_number(kind),
+                step.polygon,
+                step.first,
+                step.second,
+                float::to_bits(right.x),
+                float::to_bits(right.y),
+                float::to_bits(left.x),
+                float::to_bits(left.y),
+            ],
+        }
+    }
+
+    // Whether the record with this number in a route's bytes is this one, byte for byte.
+    pub fn is_at(self, route: &[u8], i: usize) -> bool
+        requires { ⌜ (i + 1) * 32 ≤ length (now route) ⌝ }
+        ensures { λ r. ⌜ r ≡ sameBytes (recordAt (now (route .entry)) i) (recordBytes self) ⌝ }
+    {
+        let words = self.words;
+        let mut j = 0;
+        while j < 8 {
+            if word::read(route, i * Record::BYTES + j * 4) != words[j] {
+                return false;
+            }
+            j += 1;
+        }
+        true
+    }
+
+    // Stores the record's bytes as the one with this number.
+    pub fn write(self, out: &mut [u8], i: usize)
+        requires { ⌜ (i + 1) * 32 ≤ length (now out) ⌝ }
+        ensures { λ r. ⌜ now (out .exit) ≡ putRecord (now (out .entry)) i (recordBytes self) ⌝ }
+    {
+        let words = self.words;
+        let mut k = 0;
+        while k < 8 {
+            word::write(out, i * Record::BYTES + k * 4, words[k]);
+            k += 1;
+        }
+    }
+}
+
+// 20: whole records, from 2 to 4,097.
+pub fn length_right(route: &[u8]) -> bool
+    ensures { λ r. ⌜ r ≡ lengthRight (now (route .entry)) ⌝ }
+{
+    let count = route.len() / Record::BYTES;
+    route.len() % Record::BYTES == 0 && (2 <= count && count <= MOST_RECORDS)
+}

@@ -1,0 +1,52 @@
+-- What the code keeps of a node gives document 01's steps. Rests on specs/View. Assumes nothing.
+use Prim.Native.Nat.{ℕ, _<_}
+use mathlib.Core.Path.{_≡_, refl, ap, _∙_}
+use mathlib.Core.Bool.{Bool, true, false, not, _&&_, cond}
+use mathlib.Core.List.{List}
+use Rattle.floor.specs.Stored.{Floor, polygon}
+use Rattle.floor.specs.Where.{isTurn, isMarked, marksOf}
+use Rattle.floor.proofs.Turned.{marks-turn}
+use Rattle.helpers.specs.declared.point.Segment.{Segment}
+use Rattle.helpers.specs.Point.{sameOf}
+use Rattle.cone.specs.declared.Clipped.{Clipped}
+use Rattle.cone.specs.declared.Clipped.the-variants.{Seen}
+use Rattle.cone.specs.Cone.{clipToConeOf}
+use Rattle.cone.proofs.Clip.{kept-cone-clips-the-same}
+use Rattle.walk.specs.declared.SuccessorType.{SuccessorType}
+use Rattle.walk.specs.declared.SuccessorType.the-variants.{LeftNonObservable, Observable, RightNonObservable}
+use Rattle.walk.specs.declared.Part.{Part}
+use Rattle.steps.specs.declared.Node.{Node}
+use Rattle.steps.specs.Steps.{isAllowed, rootAfter, clipped, stepOf}
+use Rattle.view.specs.View.{cornerOn, viewOf, allowsOf, turnedTo, seenBy, stepBy}
+
+-- a turn vertex is marked, and no other is
+pub mark-tells : (f : Floor) (marks : List ℕ) (v : ℕ) → marks ≡ marksOf f → v < 1024 → isMarked marks v ≡ isTurn f v
+mark-tells f marks v e h = rw (e, marks-turn f v h)
+
+module _ (f : Floor) (node : Node) where
+  allows-is : (kind : SuccessorType) → allowsOf (viewOf f node) kind ≡ isAllowed f node kind
+  unfolding allowsOf viewOf cornerOn isAllowed
+  allows-is Observable = refl
+  allows-is RightNonObservable = refl
+  allows-is LeftNonObservable = refl
+
+  turned-is : (kind : SuccessorType) → turnedTo (viewOf f node) kind ≡ rootAfter f node kind
+  unfolding turnedTo viewOf cornerOn rootAfter
+  turned-is Observable = refl
+  turned-is RightNonObservable = refl
+  turned-is LeftNonObservable = refl
+
+  seen-is : (kind : SuccessorType) (interval : Segment) → seenBy (viewOf f node) kind interval ≡ clipped f node kind interval
+  unfolding seenBy clipped viewOf
+  seen-is kind interval =
+      rw (turned-is kind)
+      (ap (λ (x : Clipped). cond (node .seed) (Seen interval) (cond (sameOf (rootAfter f node kind) (node .root)) x (Seen interval))) (kept-cone-clips-the-same (node .root) (node .interval) interval)
+      ∙ go (clipToConeOf (node .root) (node .interval) interval) (Seen interval) (node .seed) (sameOf (rootAfter f node kind) (node .root)))
+    where
+      go : (x y : Clipped) (seed same : Bool) → cond seed y (cond same x y) ≡ cond (not seed && same) x y
+      go x y true same = refl
+      go x y false same = refl
+
+  pub step-by-view : (i : ℕ) (part : Part) → stepBy (polygon f (node .polygon)) (viewOf f node) i part ≡ stepOf f node (record { edge = i; part = part })
+  unfolding stepBy stepOf
+  step-by-view i part = rw (allows-is (part .kind), seen-is (part .kind) (part .interval))

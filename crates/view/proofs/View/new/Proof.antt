@@ -1,0 +1,37 @@
+use denote.Ref.{now}
+use mathlib.Core.Path.{_≡_}
+use borrow.Author.Needs.{needs}
+use Rattle.cone.specs.declared.Cone.{Cone}
+use Rattle.cone.specs.Cone.{coneOf}
+use Rattle.floor.specs.Stored.{Floor, floorOf}
+use Rattle.steps.specs.declared.Node.{Node}
+use Rattle.view.specs.declared.Corner.{Corner}
+use Rattle.view.specs.View.{cornerOn, viewOf}
+use Rattle.view.proofs.View.new.Statement.{statement}
+use Rattle.view.proofs.View.new.Tie as tie
+
+new-requires : tie.Need-new-requires
+new-requires c κs = search needs
+
+new-requires-2 : tie.Need-new-requires-2
+new-requires-2 c κs = search needs
+
+new-requires-3 : tie.Need-new-requires-3
+new-requires-3 c κs = search needs
+
+-- the view is made of its parts
+module _ (f : Floor) (node : Node) {right left : Corner} {cone : Cone} where
+  of-parts : right ≡ cornerOn f (node .first) (node .interval .0) (node .root) → left ≡ cornerOn f (node .second) (node .interval .1) (node .root) → cone ≡ coneOf (node .root) (node .interval)
+      → record { node = node; cone = cone; right = right; left = left } ≡ viewOf f node
+  unfolding viewOf
+  of-parts r l k = rw (r, l, k)
+
+returns : tie.Need-returns
+returns c =
+    let s = c .before .before .before .before .before .before .before in
+    of-parts (floorOf (s .args .slots) (now (s .args .vertices)) (now (s .args .polygons))) (s .args .node) (c .before .before .new .ensures) (c .before .new2 .ensures) (c .new3 .ensures)
+
+pub new-spec : {M : Type 1} → statement M
+new-spec =
+    tie.close
+    (tie.spec new-requires new-requires-2 new-requires-3 returns)

@@ -1,0 +1,45 @@
+use mathlib.Core.Path.{refl, sym, _∙_}
+use borrow.Author.Needs.{needs}
+use Rattle.helpers.specs.Point.{sameOf}
+use Rattle.helpers.proofs.Cases.{taken, left, and-taken}
+use Rattle.steps.specs.Steps.{isInterval}
+use Rattle.view.proofs.is_interval.Statement.{statement}
+use Rattle.view.proofs.is_interval.Tie as tie
+
+same-requires : tie.Need-same-requires
+same-requires c κs = search needs
+
+returns : tie.Need-returns
+unfolding isInterval
+returns c =
+    let c1 = c .before in
+    let s = c1 .before .before .before in
+    taken {test = sameOf (s .args .interval .0) (s .args .interval .1)} _ _ (sym (c1 .same .ensures) ∙ c .if1 .taken) refl
+
+is-finite-requires : tie.Need-is-finite-requires
+is-finite-requires c κs = search needs
+
+is-finite-requires-2 : tie.Need-is-finite-requires-2
+is-finite-requires-2 c κs = search needs
+
+returns-2 : tie.Need-returns-2
+unfolding isInterval
+returns-2 c =
+    let c1 = c .before in
+    let c2 = c1 .before in
+    let c3 = c2 .before in
+    let c4 = c3 .before in
+    left _ _ (sym (c4 .same .ensures) ∙ c3 .if1 .left) (and-taken _ _ (sym (c2 .is-finite .ensures) ∙ c1 .if2 .taken) (c .is-finite2 .ensures))
+
+returns-3 : tie.Need-returns-3
+unfolding isInterval
+returns-3 c =
+    let c1 = c .before in
+    let c2 = c1 .before in
+    let c3 = c2 .before in
+    left _ _ (sym (c3 .same .ensures) ∙ c2 .if1 .left) (rw (← c1 .is-finite .ensures, c .if2 .left) refl)
+
+pub is-interval-spec : {M : Type 1} → statement M
+is-interval-spec =
+    tie.close
+    (tie.spec same-requires returns is-finite-requires is-finite-requires-2 returns-2 returns-3)

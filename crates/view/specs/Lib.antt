@@ -1,0 +1,2 @@
+-- What a node allows and sees, as the code keeps it.
+pub mod View

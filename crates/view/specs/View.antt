@@ -1,0 +1,61 @@
+-- What a node allows and sees, as the code keeps it: each corner of the entry edge looked at once, and the cone made once. `step-by-view` (proofs/Seen) says
+-- that the steps are document 01's. Assumes nothing.
+use Prim.Native.Nat.{ℕ}
+use mathlib.Core.Bool.{Bool, true, not, _&&_, cond}
+use lib.Dec.{eqb}
+use Rattle.helpers.specs.declared.point.Point.{Point}
+use Rattle.helpers.specs.declared.point.Segment.{Segment}
+use Rattle.helpers.specs.Point.{sameOf}
+use Rattle.cone.specs.declared.Clipped.{Clipped}
+use Rattle.cone.specs.declared.Clipped.the-variants.{Seen}
+use Rattle.cone.specs.Cone.{coneOf, clipOf}
+use Rattle.cone.specs.Landing.{landsOnOf}
+use Rattle.walk.specs.declared.SuccessorType.{SuccessorType}
+use Rattle.walk.specs.declared.SuccessorType.the-variants.{LeftNonObservable, Observable, RightNonObservable}
+use Rattle.walk.specs.declared.Part.{Part}
+use Rattle.floor.specs.Stored.{Floor, Polygon, unused, corner, neighbour, cornerAfter, vertex}
+use Rattle.floor.specs.Where.{isTurn}
+use Rattle.steps.specs.declared.Node.{Node}
+use Rattle.view.specs.declared.Corner.{Corner}
+use Rattle.view.specs.declared.View.{View}
+use Rattle.steps.specs.declared.Permitted.{Permitted}
+use Rattle.steps.specs.declared.Permitted.the-variants.{Yes, No}
+use Rattle.steps.specs.Steps.{isInterval, ifSeen}
+
+-- a vertex of the entry edge, which the interval's end on that side may land on
+unfoldable pub cornerOn : Floor → ℕ → Point → Point → Corner
+cornerOn f v end root = record { at = vertex f v; allowed = landsOnOf end (vertex f v) root && isTurn f v }
+
+unfoldable pub viewOf : Floor → Node → View
+viewOf f node = record {
+  node = node;
+  cone = coneOf (node .root) (node .interval);
+  right = cornerOn f (node .first) (node .interval .0) (node .root);
+  left = cornerOn f (node .second) (node .interval .1) (node .root);
+}
+
+unfoldable pub allowsOf : View → SuccessorType → Bool
+allowsOf view Observable = true
+allowsOf view RightNonObservable = view .right .allowed
+allowsOf view LeftNonObservable = view .left .allowed
+
+unfoldable pub turnedTo : View → SuccessorType → Point
+turnedTo view Observable = view .node .root
+turnedTo view RightNonObservable = view .right .at
+turnedTo view LeftNonObservable = view .left .at
+
+unfoldable pub seenBy : View → SuccessorType → Segment → Clipped
+seenBy view kind interval =
+    cond (view .node .seed) (Seen interval)
+    (cond (sameOf (turnedTo view kind) (view .node .root)) (clipOf (view .cone) interval)
+    (Seen interval))
+
+-- the step over a part of edge i of the polygon, or none
+unfoldable pub stepBy : Polygon → View → ℕ → Part → Permitted
+stepBy q view i part =
+    cond (eqb (neighbour q i) unused) No
+    (cond (not (allowsOf view (part .kind))) No
+    (ifSeen (seenBy view (part .kind) (part .interval))
+    (λ interval.
+    cond (not (isInterval interval)) No
+    (Yes (record { kind = part .kind; polygon = neighbour q i; first = corner q i; second = cornerAfter q i; interval = interval })))))

@@ -1,0 +1,209 @@
+// What a node allows and sees, worked out once a node, and the step over a part of an edge.
+
+ghost use mathlib.Core.Path.{_≡_};
+ghost use Prim.Native.Nat.{_*_, _/_, _≤_, _<_};
+ghost use lib.ListN.{length};
+ghost use Rattle.floor.specs.Stored.{floorOf, polygonAt};
+ghost use Rattle.floor.specs.Where.{marksOf};
+ghost use Rattle.steps.specs.Steps.{isFinite, isInterval};
+ghost use Rattle.view.specs.View.{cornerOn, viewOf, allowsOf, turnedTo, seenBy, stepBy};
+use cone::Clipped;
+use cone::Cone;
+use floor::stored::UNUSED;
+use helpers::Point;
+use helpers::Segment;
+use route::Step;
+use steps::Node;
+use steps::Permitted;
+use walk::Part;
+use walk::SuccessorType;
+
+// A vertex of the entry edge: where it is, and whether the way may turn there.
+pub struct Corner {
+    pub at: Point,
+    pub allowed: bool,
+}
+
+pub struct View {
+    pub node: Node,
+    pub cone: Cone,
+    pub right: Corner,
+    pub left: Corner,
+}
+
+// The largest finite f32.
+const LARGEST: f32 = 3.4028235e38;
+
+impl Corner {
+    // The way may turn at a vertex that the interval's end lands on and that is a turn vertex.
+    fn new(
+        vertices: &[u8],
+        polygons: &[u8],
+        slots: usize,
+        marks: &[u32; 32],
+        v: u32,
+        end: Point,
+        root: Point,
+    ) -> Corner
+        requires { ⌜ (v < length (now vertices) / 8) × (length (now vertices) / 8 ≤ 1024) × (now marks ≡ marksOf (floorOf slots (now vertices) (now polygons))) ⌝ }
+        ensures { λ r. ⌜ r ≡ cornerOn (floorOf slots (now (vertices .entry)) (now (polygons .entry))) v end root ⌝ }
+    {
+        let at = floor::stored::used_vertex(vertices, v as usize);
+        let turns = floor::turns::turns(marks, v as usize);
+        let lands = cone::lands_on(end, at, root);
+        Corner {
+            at,
+            allowed: lands && turns,
+        }
+    }
+}
+
+impl View {
+    // What a node of an accepted floor allows and sees.
+    pub fn new(
+        vertices: &[u8],
+        polygons: &[u8],
+        slots: usize,
+        marks: &[u32; 32],
+        node: Node,
+    ) -> View
+        requires { ⌜ (node .first < length (now vertices) / 8) × (node .second < length (now vertices) / 8) × (length (now vertices) / 8 ≤ 1024) × (now marks ≡ marksOf (floorOf slots (now vertices) (now polygons))) ⌝ }
+        ensures { λ r. ⌜ r ≡ viewOf (floorOf slots (now (vertices .entry)) (now (polygons .entry))) node ⌝ }
+    {
+        let root = node.root;
+        let interval = node.interval;
+        let right = Corner::new(
+            vertices,
+            polygons,
+            slots,
+            marks,
+            node.first,
+            interval.0,
+            root,
+        );
+        let left = Corner::new(
+            vertices,
+            polygons,
+            slots,
+            marks,
+            node.second,
+            interval.1,
+            root,
+        );
+        let cone = Cone::new(root, interval);
+        View {
+            node,
+            cone,
+            right,
+            left,
+        }
+    }
+
+    // Whether a part of this kind may be stepped over.
+    fn allows(self, kind: SuccessorType) -> bool
+        ensures { λ r. ⌜ r ≡ allowsOf self kind ⌝ }
+    {
+        match kind {
+            SuccessorType::Observable => true,
+            SuccessorType::RightNonObservable => {
+                let corner = self.right;
+                corner.allowed
+            }
+            SuccessorType::LeftNonObservable => {
+                let corner = self.left;
+                corner.allowed
+            }
+        }
+    }
+
+    // The root after a step over a part of this kind.
+    fn turned_to(self, kind: SuccessorType) -> Point
+        ensures { λ r. ⌜ r ≡ turnedTo self kind ⌝ }
+    {
+        match kind {
+            SuccessorType::Observable => {
+                let node = self.node;
+                node.root
+            }
+            SuccessorType::RightNonObservable => {
+                let corner = self.right;
+                corner.at
+            }
+            SuccessorType::LeftNonObservable => {
+                let corner = self.left;
+                corner.at
+            }
+        }
+    }
+
+    // What the node sees of a part. It sees through its interval only what keeps its root, and the seed has no interval.
+    fn seen(self, kind: SuccessorType, interval: Segment) -> Clipped
+        ensures { λ r. ⌜ r ≡ seenBy self kind interval ⌝ }
+    {
+        let node = self.node;
+        if node.seed {
+            return Clipped::Seen(interval);
+        }
+        let root = self.turned_to(kind);
+        if root.same(node.root) {
+            return self.cone.clip(interval);
+        }
+        Clipped::Seen(interval)
+    }
+
+    // The step over a part of an edge of the node's polygon, or none.
+    pub fn step(self, polygons: &[u8], slots: usize, edge: usize, part: Part) -> Permitted
+        requires { ⌜ (slots ≤ 16) × (edge < slots) × (self .node .polygon < length (now polygons) / (slots * 8)) ⌝ }
+        ensures { λ r. ⌜ r ≡ stepBy (polygonAt slots (now (polygons .entry)) (self .node .polygon)) self edge part ⌝ }
+    {
+        let node = self.node;
+        let p = node.polygon as usize;
+        let neighbour = floor::stored::neighbour(polygons, slots, p, edge);
+        if neighbour == UNUSED {
+            return Permitted::No;
+        }
+        let kind = part.kind;
+        if !self.allows(kind) {
+            return Permitted::No;
+        }
+        let clipped = self.seen(kind, part.interval);
+        match clipped {
+            Clipped::Seen(interval) => {
+                if !is_interval(interval) {
+                    return Permitted::No;
+                }
+                let first = floor::stored::corner(polygons, slots, p, edge);
+                let second = floor::stored::corner_after(polygons, slots, p, edge);
+                Permitted::Yes(Step {
+                    kind,
+                    polygon: neighbour,
+                    first,
+                    second,
+                    interval,
+                })
+            }
+            Clipped::Nothing => Permitted::No,
+        }
+    }
+}
+
+// A point of which neither coordinate is infinite or NaN.
+fn is_finite(point: Point) -> bool
+    ensures { λ r. ⌜ r ≡ isFinite point ⌝ }
+{
+    let x = point.x;
+    let y = point.y;
+    -LARGEST <= x && (x <= LARGEST && (-LARGEST <= y && y <= LARGEST))
+}
+
+// Equal ends, or an end that is not finite, are no interval to step over.
+fn is_interval(interval: Segment) -> bool
+    ensures { λ r. ⌜ r ≡ isInterval interval ⌝ }
+{
+    let right = interval.0;
+    let left = interval.1;
+    if right.same(left) {
+        return false;
+    }
+    is_finite(right) && is_finite(left)
+}
