@@ -10,9 +10,9 @@ use borrow.Author.Tests.{eqb-true, eqb-false, eq-eqb, ne-eqb}
 use lib.Dec.{eqb}
 use lib.ListN.{length, getD}
 use Rattle.helpers.specs.Point.{plusOf}
-use Rattle.floor.specs.Stored.{Floor, unused, origin, vertexAt, polygonAt, floorOf, corner, cornerCount, cornerAfter, polygon, vertex, edge}
-use Rattle.floor.specs.Accepted.{Corners, Accepted, Listed}
-use Rattle.floor.proofs.Records.{corner-beyond, corner-slots, count-slots, polygon-count, vertex-count, polygon-is, vertex-is}
+use Rattle.stored.specs.Stored.{Floor, unused, origin, vertexAt, polygonAt, floorOf, corner, cornerCount, cornerAfter, polygon, vertex, edge}
+use Rattle.faults.specs.Accepted.{Corners, Accepted, Listed}
+use Rattle.stored.proofs.Records.{corner-beyond, corner-slots, count-slots, polygon-count, vertex-count, polygon-is, vertex-is}
 
 module _ (s : ℕ) (vs ps : List ℕ) where
   pub vertex-used : (v : ℕ) → v < length vs / 8 → vertex (floorOf s vs ps) v ≡ plusOf (vertexAt vs v) origin

@@ -6,9 +6,9 @@ use mathlib.Core.List.{List}
 use mathlib.Core.Logic.{_↔_}
 use lib.ListN.{length}
 use Rattle.floor.specs.declared.FloorLook.the-variants.{Accepted as Sound}
-use Rattle.floor.specs.Stored.{floorOf}
-use Rattle.floor.specs.Tests.{lengthRight, questionRight}
-use Rattle.floor.specs.Accepted.{Accepted}
+use Rattle.stored.specs.Stored.{floorOf}
+use Rattle.faults.specs.Tests.{lengthRight, questionRight}
+use Rattle.faults.specs.Accepted.{Accepted}
 use Rattle.floor.specs.Look.{floorLookOf}
 use Rattle.floor.proofs.Exact.{whole-decided, asked-decided, floor-exactly}
 

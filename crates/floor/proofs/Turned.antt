@@ -13,7 +13,7 @@ use lib.ListN.{length, getD, set, length-set, replicate, length-replicate, getD-
 use lib.Pow.{pow-add, pow-lt, shl-shr}
 use lib.Seq.{getD-set-same, getD-set-other}
 use Rattle.counts.specs.Counts.{some}
-use Rattle.floor.specs.Stored.{Floor, Polygon, unused, corner, neighbour, cornerCount, cornerAfter, polygon}
+use Rattle.stored.specs.Stored.{Floor, Polygon, unused, corner, neighbour, cornerCount, cornerAfter, polygon}
 use Rattle.floor.specs.Where.{turnsAt, isTurn, isMarked, markVertex, markEdge, markEdges, markPolygons, marksOf}
 
 -- true where one of two says so, else what was there

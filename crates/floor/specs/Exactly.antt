@@ -15,8 +15,8 @@ use Rattle.floor.specs.declared.FloorLook.{FloorLook}
 use Rattle.floor.specs.declared.FloorLook.the-variants.{Accepted as Sound, Faulty}
 use Rattle.floor.specs.declared.Look.{Look}
 use Rattle.floor.specs.declared.Look.the-variants.{Inside, Refused}
-use Rattle.floor.specs.Stored.{Floor, origin, floorOf, questionOf, polygon, edge, cornerCount}
-use Rattle.floor.specs.Accepted.{InRange, Corners, Links, Accepted}
+use Rattle.stored.specs.Stored.{Floor, origin, floorOf, questionOf, polygon, edge, cornerCount}
+use Rattle.faults.specs.Accepted.{InRange, Corners, Links, Accepted}
 
 -- ---- what is tested
 

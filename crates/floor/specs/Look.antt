@@ -12,8 +12,8 @@ use Rattle.floor.specs.declared.FloorLook.{FloorLook}
 use Rattle.floor.specs.declared.FloorLook.the-variants.{Accepted, Faulty}
 use Rattle.floor.specs.declared.Look.{Look}
 use Rattle.floor.specs.declared.Look.the-variants.{Inside, Refused}
-use Rattle.floor.specs.Stored.{Floor, origin, floorOf, questionOf, polygon}
-use Rattle.floor.specs.Tests.{lengthRight, pointRight, cornersRight, linksRight, questionRight}
+use Rattle.stored.specs.Stored.{Floor, origin, floorOf, questionOf, polygon}
+use Rattle.faults.specs.Tests.{lengthRight, pointRight, cornersRight, linksRight, questionRight}
 use Rattle.floor.specs.Where.{polygonOf}
 
 -- ---- the lowest record at fault, or the number of records where there is none

@@ -9,7 +9,7 @@ use Rattle.counts.specs.Counts.{every, some, first}
 use Rattle.helpers.specs.declared.point.Point.{Point}
 use Rattle.helpers.specs.declared.EdgeSide.the-variants.{Right}
 use Rattle.helpers.specs.Helpers.{sideOf, sameSideOf}
-use Rattle.floor.specs.Stored.{Floor, Polygon, unused, corner, neighbour, cornerCount, cornerAfter, polygon, edge}
+use Rattle.stored.specs.Stored.{Floor, Polygon, unused, corner, neighbour, cornerCount, cornerAfter, polygon, edge}
 
 -- "A polygon contains a point if the point is Right of none of its edges."
 unfoldable pub contains : Floor → Point → ℕ → Bool

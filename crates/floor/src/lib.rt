@@ -1,5 +1,6 @@
-// The floor as stored: its records read off lent bytes, the tests 2 to 9, and which vertices turn. A floor is two lists of
-// records and the number of corner slots in a polygon's; a list holds at most as many records as document 01 says.
+// The look at a floor and a question: the tests 2 to 9 in table order, which polygon a point is in, and which vertices turn. A
+// floor is two lists of records and the number of corner slots in a polygon's; a list holds at most as many records as document
+// 01 says.
 
 ghost use mathlib.Core.Path.{_≡_};
 ghost use Prim.Native.Nat.{_*_, _/_, _≤_, _<_, _^_};
@@ -7,17 +8,15 @@ ghost use mathlib.Core.Bool.{not};
 ghost use lib.ListN.{length, getD};
 ghost use Rattle.helpers.specs.declared.EdgeSide.the-variants.{Right};
 ghost use Rattle.helpers.specs.Helpers.{sideOf, sameSideOf};
-ghost use Rattle.floor.specs.Stored.{origin, polygonAt, floorOf, polygon, cornerCount, edge};
-ghost use Rattle.floor.specs.Tests.{pointRight, cornersRight, questionRight};
-ghost use Rattle.floor.specs.Accepted.{Accepted, Listed};
+ghost use Rattle.stored.specs.Stored.{origin, polygonAt, floorOf, polygon, cornerCount, edge};
+ghost use Rattle.faults.specs.Tests.{pointRight, cornersRight, questionRight};
+ghost use Rattle.faults.specs.Accepted.{Accepted, Listed};
 ghost use Rattle.floor.specs.Where.{contains, polygonOf};
 ghost use Rattle.floor.specs.Look.{badVertex, badCorners, badLinks, floorLookOf, askOf, lookOf, refusalNumber};
 use helpers::EdgeSide;
 use helpers::Point;
 use helpers::Segment;
 
-pub mod stored;
-mod tests;
 pub mod turns;
 
 // How many corners a polygon's record has room for.
@@ -65,7 +64,7 @@ fn vertex_right(vertices: &[u8], polygons: &[u8], slots: usize, v: usize) -> boo
     requires { ⌜ v < length (now vertices) / 8 ⌝ }
     ensures { λ r. ⌜ r ≡ pointRight (getD (floorOf slots (now (vertices .entry)) (now (polygons .entry)) .vertices) v origin) ⌝ }
 {
-    tests::point_right(stored::stored_vertex(vertices, v))
+    faults::point_right(stored::stored_vertex(vertices, v))
 }
 
 // 4: the lowest vertex at fault, or the number of vertices.
@@ -88,7 +87,7 @@ fn corners_right(vertices: &[u8], polygons: &[u8], slots: usize, p: usize) -> bo
     requires { ⌜ (slots ≤ 16) × (p < length (now polygons) / (slots * 8)) ⌝ }
     ensures { λ r. ⌜ r ≡ cornersRight (length (floorOf slots (now (vertices .entry)) (now (polygons .entry)) .vertices)) (polygon (floorOf slots (now (vertices .entry)) (now (polygons .entry))) p) ⌝ }
 {
-    tests::corners_right(polygons, slots, p, vertices.len() / 8)
+    faults::corners_right(polygons, slots, p, vertices.len() / 8)
 }
 
 // 5: the lowest polygon at fault, or the number of polygons.
@@ -115,7 +114,7 @@ fn bad_links(vertices: &[u8], polygons: &[u8], slots: usize) -> usize
     let n = stored::polygon_count(polygons, slots);
     let mut p = 0;
     while p < n {
-        if !tests::links_right(vertices, polygons, slots, p) {
+        if !faults::links_right(vertices, polygons, slots, p) {
             return p;
         }
         p += 1;
@@ -127,10 +126,10 @@ fn bad_links(vertices: &[u8], polygons: &[u8], slots: usize) -> usize
 pub fn look_at_floor(vertices: &[u8], polygons: &[u8]) -> FloorLook
     ensures { λ r. ⌜ r ≡ floorLookOf 8 (now (vertices .entry)) (now (polygons .entry)) ⌝ }
 {
-    if !tests::length_right(vertices, 8, MOST_VERTICES) {
+    if !faults::length_right(vertices, 8, MOST_VERTICES) {
         return FloorLook::Faulty(Refusal::VertexLength);
     }
-    if !tests::length_right(polygons, SLOTS * 8, MOST_POLYGONS) {
+    if !faults::length_right(polygons, SLOTS * 8, MOST_POLYGONS) {
         return FloorLook::Faulty(Refusal::PolygonLength);
     }
     let v = bad_vertex(vertices, polygons, SLOTS);
@@ -216,8 +215,8 @@ fn question_right(question: &[u8]) -> bool
     ensures { λ r. ⌜ r ≡ questionRight (now (question .entry)) ⌝ }
 {
     if question.len() == 16 {
-        return tests::point_right(stored::question_start(question))
-            && tests::point_right(stored::question_goal(question));
+        return faults::point_right(stored::question_start(question))
+            && faults::point_right(stored::question_goal(question));
     }
     false
 }

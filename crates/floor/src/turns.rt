@@ -3,15 +3,15 @@
 ghost use mathlib.Core.Path.{_≡_};
 ghost use Prim.Native.Nat.{_*_, _/_, _≤_, _<_};
 ghost use lib.ListN.{length};
-ghost use Rattle.floor.specs.Stored.{polygonAt, floorOf, polygon, cornerCount};
-ghost use Rattle.floor.specs.Accepted.{Accepted, Listed};
+ghost use Rattle.stored.specs.Stored.{polygonAt, floorOf, polygon, cornerCount};
+ghost use Rattle.faults.specs.Accepted.{Accepted, Listed};
 ghost use Rattle.floor.specs.Where.{isMarked, markVertex, markEdge, markEdges, markPolygons, marksOf};
-use crate::stored::UNUSED;
-use crate::stored::corner;
-use crate::stored::corner_after;
-use crate::stored::corner_count;
-use crate::stored::neighbour;
-use crate::stored::polygon_count;
+use stored::UNUSED;
+use stored::corner;
+use stored::corner_after;
+use stored::corner_count;
+use stored::neighbour;
+use stored::polygon_count;
 
 // Whether vertex v is marked.
 pub fn turns(marks: &[u32; 32], v: usize) -> bool

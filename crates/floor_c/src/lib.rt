@@ -4,8 +4,8 @@
 ghost use mathlib.Core.Path.{_≡_};
 ghost use Prim.Native.Nat.{_/_, _≤_};
 ghost use lib.ListN.{length};
-ghost use Rattle.floor.specs.Stored.{floorOf};
-ghost use Rattle.floor.specs.Accepted.{Accepted};
+ghost use Rattle.stored.specs.Stored.{floorOf};
+ghost use Rattle.faults.specs.Accepted.{Accepted};
 ghost use Rattle.floor.specs.Where.{marksOf};
 ghost use Rattle.floor.specs.Look.{floorLookOf};
 ghost use Rattle.floor_c.specs.Numbers.{lookNumber, markNumber, turnNumber};

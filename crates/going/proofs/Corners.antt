@@ -13,7 +13,7 @@ use Rattle.counts.proofs.Laws.{first-at, first-before, getD-table, length-table
 use Rattle.helpers.specs.declared.point.Point.{Point}
 use Rattle.walk.specs.Round.{wrapped, cornerOf, edgeOf}
 use Rattle.walk.proofs.Wrap.{wrapped-below, wrapped-past}
-use Rattle.floor.specs.Stored.{Floor, Polygon, unused, corner, cornerCount, cornerAfter, polygon, vertex, edge}
+use Rattle.stored.specs.Stored.{Floor, Polygon, unused, corner, cornerCount, cornerAfter, polygon, vertex, edge}
 
 -- ---- behind the last corner
 

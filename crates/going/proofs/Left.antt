@@ -22,7 +22,7 @@ use Rattle.walk.specs.Round.{edgeOf, afterEntry, Successor, successorsOn, edges
 use Rattle.walk.specs.Turns.{beginOf, isOverOf, edgeNumberOf, nextOf}
 use Rattle.walk.proofs.Wrap.{wrapped-past}
 use Rattle.walk.proofs.Laws.{array-holds-the-parts, kind-is-the-walk's, another}
-use Rattle.floor.specs.Stored.{Floor, floorOf, corner, cornerCount, polygon, vertex, edge}
+use Rattle.stored.specs.Stored.{Floor, floorOf, corner, cornerCount, polygon, vertex, edge}
 use Rattle.steps.specs.declared.Node.{Node}
 use Rattle.going.specs.declared.Going.{Going}
 use Rattle.steps.specs.Steps.{wholeEdge, wholeEdges, entryOf, successorsIn, candidates}

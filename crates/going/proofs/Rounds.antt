@@ -12,8 +12,8 @@ use Rattle.walk.specs.declared.round.Round.{Round}
 use Rattle.walk.specs.Walk.{walkEdgeOf, walkedOf, oneOf}
 use Rattle.walk.specs.Turns.{beginOf, isOverOf, edgeNumberOf}
 use Rattle.walk.proofs.Laws.{count-is-one-to-three, array-is-of-three, another}
-use Rattle.floor.specs.Stored.{Floor, polygonAt, floorOf, cornerCount, polygon}
-use Rattle.floor.proofs.Records.{polygon-is}
+use Rattle.stored.specs.Stored.{Floor, polygonAt, floorOf, cornerCount, polygon}
+use Rattle.stored.proofs.Records.{polygon-is}
 use Rattle.steps.specs.declared.Node.{Node}
 use Rattle.steps.specs.Steps.{placeOf, entryOf}
 use Rattle.going.specs.Going.{wholeOf, walkBy, entryFor, countFor, Stands, Turning}

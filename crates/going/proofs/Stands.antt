@@ -13,9 +13,9 @@ use lib.ListN.{length, List·getD-eq-default}
 use Rattle.counts.proofs.Laws.{first-below}
 use Rattle.helpers.specs.declared.point.Point.{Point}
 use Rattle.walk.specs.Round.{Successor}
-use Rattle.floor.specs.Stored.{Floor, Polygon, unused, polygonAt, floorOf, corner, neighbour, cornerCount, cornerAfter, polygon}
-use Rattle.floor.specs.Accepted.{Accepted, Links, Back}
-use Rattle.floor.proofs.Records.{polygon-is, polygon-count}
+use Rattle.stored.specs.Stored.{Floor, Polygon, unused, polygonAt, floorOf, corner, neighbour, cornerCount, cornerAfter, polygon}
+use Rattle.faults.specs.Accepted.{Accepted, Links, Back}
+use Rattle.stored.proofs.Records.{polygon-is, polygon-count}
 use Rattle.floor.proofs.Inside.{listed-of, corner-below, after-below}
 use Rattle.route.specs.declared.Step.{Step}
 use Rattle.route.specs.World.{_∈_}

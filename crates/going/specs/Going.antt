@@ -14,8 +14,8 @@ use Rattle.walk.specs.declared.round.Round.{Round}
 use Rattle.walk.specs.Walk.{walkEdgeOf, walkedOf, oneOf, partsOf, partAt}
 use Rattle.walk.specs.Round.{Successor, successorsOn, edgesFrom}
 use Rattle.walk.specs.Turns.{beginOf, isOverOf, edgeNumberOf, nextOf}
-use Rattle.floor.specs.Stored.{Floor, floorOf, polygonAt, cornerCount, polygon, edge}
-use Rattle.floor.specs.Accepted.{Listed}
+use Rattle.stored.specs.Stored.{Floor, floorOf, polygonAt, cornerCount, polygon, edge}
+use Rattle.faults.specs.Accepted.{Listed}
 use Rattle.steps.specs.declared.Node.{Node}
 use Rattle.going.specs.declared.Going.{Going}
 use Rattle.steps.specs.Steps.{entryOf}

@@ -7,7 +7,7 @@ ghost use mathlib.Core.Bool.{false};
 ghost use lib.ListN.{length};
 ghost use Rattle.walk.specs.Walk.{partAt};
 ghost use Rattle.walk.specs.Turns.{isOverOf};
-ghost use Rattle.floor.specs.Stored.{floorOf, polygonAt};
+ghost use Rattle.stored.specs.Stored.{floorOf, polygonAt};
 ghost use Rattle.steps.specs.Steps.{placeOf};
 ghost use Rattle.going.specs.Going.{wholeOf, walkBy, onEdge, beginGoing, nextGoing, Stands, Turning, Goes};
 use helpers::Segment;
@@ -60,7 +60,7 @@ pub fn place_of(polygons: &[u8], slots: usize, p: usize, n: usize, v: u32) -> us
 {
     let mut i = 0;
     while i < n {
-        if floor::stored::corner(polygons, slots, p, i) == v {
+        if stored::corner(polygons, slots, p, i) == v {
             return i;
         }
         i += 1;
@@ -92,7 +92,7 @@ pub fn begin(vertices: &[u8], polygons: &[u8], slots: usize, node: Node) -> Goin
     ensures { λ r. ⌜ r ≡ beginGoing (floorOf slots (now (vertices .entry)) (now (polygons .entry))) node ⌝ }
 {
     let p = node.polygon as usize;
-    let n = floor::stored::corner_count(polygons, slots, p);
+    let n = stored::corner_count(polygons, slots, p);
     if node.seed {
         let round = Round::begin(n, n + 1);
         return on_edge(vertices, polygons, slots, node, round);

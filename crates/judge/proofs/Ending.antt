@@ -11,7 +11,7 @@ use Rattle.route.specs.Record.{recordAt, endBytes}
 use Rattle.records.specs.Records.{recordBytes, endRecord}
 use Rattle.route.specs.Judge.{sameBytes, judgeEnd}
 use Rattle.records.proofs.Stored.{end-tested}
-use Rattle.floor.specs.Stored.{Floor}
+use Rattle.stored.specs.Stored.{Floor}
 use Rattle.steps.specs.declared.Node.{Node}
 use Rattle.steps.specs.declared.Ending.{Ending}
 use Rattle.steps.specs.World.{endingOf, isInGoal, worldIn}

@@ -8,7 +8,7 @@ use mathlib.Core.List.{List}
 use lib.ListN.{length}
 use Rattle.helpers.specs.declared.point.Point.{Point}
 use Rattle.helpers.specs.Point.{sameOf}
-use Rattle.floor.specs.Stored.{Floor, floorOf}
+use Rattle.stored.specs.Stored.{Floor, floorOf}
 use Rattle.route.specs.declared.Step.{Step}
 use Rattle.route.specs.declared.Judged.the-variants.{NotStep}
 use Rattle.route.specs.declared.Sought.the-variants.{Found, Missing}

@@ -6,11 +6,11 @@ use lib.Dec.{lit<, lit≤}
 use lib.ListN.{length}
 use Rattle.floor.specs.declared.Look.the-variants.{Inside}
 use Rattle.helpers.specs.declared.point.Point.{Point}
-use Rattle.floor.specs.Stored.{Floor, Question, floorOf, questionOf}
-use Rattle.floor.specs.Accepted.{Accepted}
+use Rattle.stored.specs.Stored.{Floor, Question, floorOf, questionOf}
+use Rattle.faults.specs.Accepted.{Accepted}
 use Rattle.floor.specs.Where.{marksOf, polygonOf}
 use Rattle.floor.specs.Look.{lookOf}
-use Rattle.floor.proofs.Records.{polygon-count}
+use Rattle.stored.proofs.Records.{polygon-count}
 use Rattle.floor.proofs.Exact.{each-exactly, least-is-polygon}
 use Rattle.route.specs.declared.Judged.{Judged}
 use Rattle.route.specs.Judge.{judgeOf}

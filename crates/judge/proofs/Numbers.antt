@@ -7,7 +7,7 @@ use mathlib.Core.List.{List, [], _∷_}
 use mathlib.Core.Logic.{_↔_, _⊎_, inl, inr, ⊎-elim}
 use lib.ListN.{length, take, getD}
 use Rattle.word.specs.Word.{Bytes}
-use Rattle.floor.specs.Stored.{floorOf, questionOf}
+use Rattle.stored.specs.Stored.{floorOf, questionOf}
 use Rattle.route.specs.declared.Judged.{Judged}
 use Rattle.route.specs.declared.Judged.the-variants.{Accepted, Length, NotSeed, NotStep, NotEnd}
 use Rattle.route.specs.World.{World, TrueRoute}

@@ -3,7 +3,7 @@ use Prim.Native.Nat.{ℕ}
 use mathlib.Core.List.{List}
 use Rattle.floor.specs.declared.Look.the-variants.{Refused as LookRefused}
 use Rattle.floor.specs.declared.FloorLook.the-variants.{Accepted as Sound}
-use Rattle.floor.specs.Stored.{floorOf, questionOf}
+use Rattle.stored.specs.Stored.{floorOf, questionOf}
 use Rattle.floor.specs.Exactly.{Asked, InSome, FloorCase, Case as LookCase}
 use Rattle.route.specs.Verdict.{Case as RouteCase}
 use Rattle.steps.specs.World.{worldOf}

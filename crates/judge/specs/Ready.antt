@@ -3,8 +3,8 @@ use Prim.Native.Nat.{ℕ, _/_, _≤_, _<_}
 use mathlib.Core.Path.{_≡_}
 use mathlib.Core.List.{List}
 use lib.ListN.{length}
-use Rattle.floor.specs.Stored.{floorOf}
-use Rattle.floor.specs.Accepted.{Accepted}
+use Rattle.stored.specs.Stored.{floorOf}
+use Rattle.faults.specs.Accepted.{Accepted}
 use Rattle.floor.specs.Where.{marksOf}
 
 pub record Ready (slots : ℕ) (vertices polygons marks : List ℕ) : Type 0 where

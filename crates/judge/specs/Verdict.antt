@@ -6,7 +6,7 @@ use mathlib.Core.List.{List}
 use Rattle.helpers.specs.declared.point.Point.{Point}
 use Rattle.floor.specs.declared.Look.{Look}
 use Rattle.floor.specs.declared.Look.the-variants.{Inside, Refused as LookRefused}
-use Rattle.floor.specs.Stored.{Question, floorOf, questionOf}
+use Rattle.stored.specs.Stored.{Question, floorOf, questionOf}
 use Rattle.floor.specs.Look.{lookOf, refusalNumber, refusalRecord}
 use Rattle.route.specs.declared.Judged.{Judged}
 use Rattle.route.specs.declared.Judged.the-variants.{Accepted, NotEnd}

@@ -4,7 +4,7 @@
 ghost use mathlib.Core.Path.{_≡_};
 ghost use Prim.Native.Nat.{_+_, _*_, _/_, _≤_, _<_, _^_};
 ghost use lib.ListN.{length};
-ghost use Rattle.floor.specs.Stored.{floorOf};
+ghost use Rattle.stored.specs.Stored.{floorOf};
 ghost use Rattle.route.specs.Judge.{judgeOf};
 ghost use Rattle.steps.specs.World.{worldIn};
 ghost use Rattle.judge.specs.Verdict.{asked, endOf, verdictOf, verdictNumber};
@@ -88,8 +88,8 @@ pub fn judge(vertices: &[u8], polygons: &[u8], question: &[u8], route: &[u8]) ->
     match look {
         Look::Inside(from, to) => {
             let marks = floor::turns::turn_vertices(vertices, polygons, SLOTS);
-            let start = floor::stored::question_start(question);
-            let goal = floor::stored::question_goal(question);
+            let start = stored::question_start(question);
+            let goal = stored::question_goal(question);
             let judged = judge_route(
                 vertices,
                 polygons,

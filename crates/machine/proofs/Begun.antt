@@ -10,8 +10,8 @@ use Rattle.float.proofs.Tests.{untrue}
 use lib.ListN.{length}
 use Rattle.helpers.specs.declared.point.Point.{Point}
 use Rattle.helpers.specs.Point as point
-use Rattle.floor.specs.Stored.{Floor, floorOf}
-use Rattle.floor.specs.Accepted.{Accepted}
+use Rattle.stored.specs.Stored.{Floor, floorOf}
+use Rattle.faults.specs.Accepted.{Accepted}
 use Rattle.route.specs.World.{_∈_}
 use Rattle.route.specs.declared.Step.{Step}
 use Rattle.steps.specs.declared.Node.{Node}

@@ -8,7 +8,7 @@ use lib.Dec.{leb, ltb}
 use lib.Ieee.{Float, binary32, add, isNan}
 use lib.ListN.{length}
 use Rattle.helpers.specs.Helpers.{heuristicOf}
-use Rattle.floor.specs.Stored.{Floor}
+use Rattle.stored.specs.Stored.{Floor}
 use Rattle.route.specs.declared.Step.{Step}
 use Rattle.route.specs.Step.{kindNumber}
 use Rattle.steps.specs.declared.Node.{Node}

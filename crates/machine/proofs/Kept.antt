@@ -14,8 +14,8 @@ use Rattle.helpers.specs.Point.{sameOf}
 use Rattle.helpers.specs.Helpers.{heuristicOf}
 use Rattle.walk.specs.declared.SuccessorType.{SuccessorType}
 use Rattle.walk.specs.declared.SuccessorType.the-variants.{LeftNonObservable, Observable, RightNonObservable}
-use Rattle.floor.specs.Stored.{Floor, floorOf}
-use Rattle.floor.specs.Accepted.{Accepted}
+use Rattle.stored.specs.Stored.{Floor, floorOf}
+use Rattle.faults.specs.Accepted.{Accepted}
 use Rattle.route.specs.declared.Step.{Step}
 use Rattle.route.specs.Step.{kindNumber}
 use Rattle.route.specs.World.{_∈_}

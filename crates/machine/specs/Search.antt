@@ -8,7 +8,7 @@ use lib.Ieee.{Float, binary32, add, lt, isNan}
 use Rattle.helpers.specs.declared.point.Point.{Point}
 use Rattle.helpers.specs.Point as point
 use Rattle.helpers.specs.Helpers.{heuristicOf}
-use Rattle.floor.specs.Stored.{Floor}
+use Rattle.stored.specs.Stored.{Floor}
 use Rattle.route.specs.declared.Step.{Step}
 use Rattle.route.specs.Step.{kindNumber}
 use Rattle.steps.specs.declared.Node.{Node}

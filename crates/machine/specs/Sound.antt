@@ -7,8 +7,8 @@ use mathlib.Core.List.{List}
 use lib.Dec.{T}
 use lib.ListN.{length}
 use lib.Ieee.{Float, nan, inf, fin}
-use Rattle.floor.specs.Stored.{Floor, floorOf}
-use Rattle.floor.specs.Accepted.{Accepted}
+use Rattle.stored.specs.Stored.{Floor, floorOf}
+use Rattle.faults.specs.Accepted.{Accepted}
 use Rattle.floor.specs.Where.{marksOf}
 use Rattle.route.specs.World.{_∈_}
 use Rattle.steps.specs.declared.Node.{Node}

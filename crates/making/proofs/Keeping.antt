@@ -6,7 +6,7 @@ use mathlib.Core.List.{List}
 use borrow.Author.Tests.{eq-eqb, lt-ltb, le-ltb, lt-leb, le-leb}
 use lib.Ieee.{Float, nan, inf, fin, up, down, binary32, add, lt, ne, isNan}
 use Rattle.helpers.specs.Helpers.{heuristicOf}
-use Rattle.floor.specs.Stored.{Floor}
+use Rattle.stored.specs.Stored.{Floor}
 use Rattle.route.specs.declared.Step.{Step}
 use Rattle.route.specs.Step.{kindNumber}
 use Rattle.steps.specs.declared.Node.{Node}

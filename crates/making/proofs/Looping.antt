@@ -7,7 +7,7 @@ use mathlib.Core.List.{List}
 use lib.Dec.{eqb}
 use lib.ListN.{length}
 use Rattle.walk.specs.Turns.{isOverOf}
-use Rattle.floor.specs.Stored.{Floor, floorOf}
+use Rattle.stored.specs.Stored.{Floor, floorOf}
 use Rattle.going.specs.declared.Going.{Going}
 use Rattle.steps.specs.Steps.{stepOf, stepsOver, stepsFrom}
 use Rattle.going.specs.Going.{current, leftIn, beginGoing, nextGoing, Stands, Goes}

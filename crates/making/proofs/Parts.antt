@@ -7,8 +7,8 @@ use lib.Dec.{eqb}
 use Rattle.walk.specs.declared.Part.{Part}
 use Rattle.walk.specs.Walk.{partAt}
 use Rattle.walk.specs.Turns.{isOverOf, edgeNumberOf}
-use Rattle.floor.specs.Stored.{Floor, floorOf, polygonAt, polygon}
-use Rattle.floor.proofs.Records.{polygon-is}
+use Rattle.stored.specs.Stored.{Floor, floorOf, polygonAt, polygon}
+use Rattle.stored.proofs.Records.{polygon-is}
 use Rattle.floor.proofs.Inside.{slot-inside}
 use Rattle.route.specs.declared.Step.{Step}
 use Rattle.steps.specs.declared.Node.{Node}

@@ -10,7 +10,7 @@ ghost use lib.Dec.{eqb};
 ghost use lib.ListN.{length};
 ghost use lib.Ieee.{isNan};
 ghost use Rattle.walk.specs.Turns.{isOverOf};
-ghost use Rattle.floor.specs.Stored.{floorOf};
+ghost use Rattle.stored.specs.Stored.{floorOf};
 ghost use Rattle.steps.specs.Steps.{stepOf, stepsFrom};
 ghost use Rattle.view.specs.View.{viewOf};
 ghost use Rattle.going.specs.Going.{current, Goes};

@@ -8,7 +8,7 @@ use borrow.Author.Tests.{eq-eqb, ne-eqb}
 use lib.Dec.{eqb}
 use lib.ListN.{length}
 use Rattle.helpers.specs.declared.point.Point.{Point}
-use Rattle.floor.specs.Stored.{Floor, floorOf}
+use Rattle.stored.specs.Stored.{Floor, floorOf}
 use Rattle.steps.specs.declared.Node.{Node}
 use Rattle.steps.specs.Steps.{stepsFrom, seedNode}
 use Rattle.going.proofs.Stands.{seed-stands}

@@ -7,7 +7,7 @@ ghost use mathlib.Core.Bool.{false};
 ghost use Prim.Native.Nat.{ℕ, _+_, _*_, _/_, _≤_, _<_, _^_};
 ghost use lib.Dec.{eqb};
 ghost use lib.ListN.{length};
-ghost use Rattle.floor.specs.Stored.{Floor, floorOf};
+ghost use Rattle.stored.specs.Stored.{Floor, floorOf};
 ghost use Rattle.places.specs.Layout.{workOf, Room};
 ghost use Rattle.machine.specs.Search.{stateOf, stepping, ending, beatenIn, visited, step, run, planted, searchedFrom};
 ghost use Rattle.machine.specs.Sound.{Ground, SoundFrom};

@@ -8,7 +8,7 @@ use lib.Dec.{eqb}
 use Rattle.floor.specs.declared.Look.{Look}
 use Rattle.floor.specs.declared.Look.the-variants.{Inside, Refused}
 use Rattle.floor.specs.Look.{lookOf}
-use Rattle.floor.specs.Stored.{Floor, Question, floorOf, questionOf}
+use Rattle.stored.specs.Stored.{Floor, Question, floorOf, questionOf}
 use Rattle.helpers.specs.declared.point.Point.{Point}
 use Rattle.queue.specs.Queue.{none}
 use Rattle.machine.specs.declared.Task.{Task}

@@ -9,7 +9,7 @@ use lib.Ieee.{Float}
 use lib.ListN.{length, take}
 use Rattle.word.specs.Word.{Bytes}
 use Rattle.helpers.specs.declared.point.Point.{Point}
-use Rattle.floor.specs.Stored.{questionOf}
+use Rattle.stored.specs.Stored.{questionOf}
 use Rattle.route.specs.declared.Judged.the-variants.{Accepted}
 use Rattle.route.specs.Record.{recordAt, endBytes}
 use Rattle.judge.specs.declared.Verdict.the-variants.{Read}

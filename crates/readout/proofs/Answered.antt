@@ -9,7 +9,7 @@ use lib.Seq.{sets}
 use Rattle.helpers.specs.declared.point.Point.{Point}
 use Rattle.floor.specs.declared.Refusal.{Refusal}
 use Rattle.floor.specs.declared.Look.the-variants.{Inside, Refused as LookRefused}
-use Rattle.floor.specs.Stored.{Floor, floorOf, questionOf}
+use Rattle.stored.specs.Stored.{Floor, floorOf, questionOf}
 use Rattle.floor.specs.Look.{lookOf}
 use Rattle.route.specs.declared.Judged.{Judged}
 use Rattle.route.specs.declared.Judged.the-variants.{Accepted, Length, NotSeed, NotStep, NotEnd}

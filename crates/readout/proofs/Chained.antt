@@ -10,7 +10,7 @@ use lib.ListN.{length}
 use lib.Seq.{sets}
 use Rattle.helpers.specs.declared.point.Point.{Point}
 use Rattle.helpers.specs.Point.{sameOf}
-use Rattle.floor.specs.Stored.{Floor, floorOf}
+use Rattle.stored.specs.Stored.{Floor, floorOf}
 use Rattle.route.specs.declared.Step.{Step}
 use Rattle.route.specs.declared.Sought.the-variants.{Found}
 use Rattle.route.specs.declared.Judged.{Judged}

@@ -16,7 +16,7 @@ use Rattle.helpers.specs.declared.Turn.{Turn}
 use Rattle.helpers.specs.declared.Turn.the-variants.{Around, Straight}
 use Rattle.helpers.specs.Point.{sameOf}
 use Rattle.helpers.specs.Helpers.{turningPointOf}
-use Rattle.floor.specs.Stored.{Floor}
+use Rattle.stored.specs.Stored.{Floor}
 use Rattle.route.specs.declared.Step.{Step}
 use Rattle.route.specs.declared.Sought.{Sought}
 use Rattle.route.specs.declared.Sought.the-variants.{Found, Missing}

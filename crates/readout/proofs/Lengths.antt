@@ -16,7 +16,7 @@ use Rattle.helpers.specs.Point.{pointOf, fromBitsOf, sameOf, plusOf, distanceOf
 use Rattle.helpers.specs.Helpers.{turningPointOf}
 use Rattle.walk.specs.declared.SuccessorType.{SuccessorType}
 use Rattle.walk.specs.declared.SuccessorType.the-variants.{LeftNonObservable, Observable, RightNonObservable}
-use Rattle.floor.specs.Stored.{Floor, floorOf, questionOf, vertex}
+use Rattle.stored.specs.Stored.{Floor, floorOf, questionOf, vertex}
 use Rattle.floor.specs.Where.{polygonOf}
 use Rattle.route.specs.declared.Step.{Step}
 use Rattle.route.specs.declared.Sought.{Sought}

@@ -9,7 +9,7 @@ use lib.ListN.{length, set}
 use lib.Seq.{sets}
 use Rattle.helpers.specs.declared.point.Point.{Point}
 use Rattle.helpers.specs.Point.{sameOf}
-use Rattle.floor.specs.Stored.{floorOf, questionOf}
+use Rattle.stored.specs.Stored.{floorOf, questionOf}
 use Rattle.route.specs.declared.Judged.the-variants.{Accepted, Length, NotSeed, NotStep, NotEnd}
 use Rattle.steps.specs.declared.Node.{Node}
 use Rattle.steps.specs.World.{worldOf}

@@ -6,7 +6,7 @@ ghost use mathlib.Core.Bool.{false};
 ghost use lib.ListN.{length};
 ghost use lib.Seq.{sets};
 ghost use Rattle.helpers.specs.Point.{sameOf};
-ghost use Rattle.floor.specs.Stored.{floorOf};
+ghost use Rattle.stored.specs.Stored.{floorOf};
 ghost use Rattle.route.specs.declared.Judged.the-variants.{Accepted};
 ghost use Rattle.route.specs.Judge.{judgeOf};
 ghost use Rattle.steps.specs.World.{worldIn};
@@ -225,8 +225,8 @@ pub fn read_out(
     match look {
         Look::Inside(from, to) => {
             let marks = floor::turns::turn_vertices(vertices, polygons, SLOTS);
-            let start = floor::stored::question_start(question);
-            let goal = floor::stored::question_goal(question);
+            let start = stored::question_start(question);
+            let goal = stored::question_goal(question);
             read_route(
                 vertices,
                 polygons,

@@ -14,11 +14,11 @@ use Rattle.floor.specs.declared.FloorLook.{FloorLook}
 use Rattle.floor.specs.declared.FloorLook.the-variants.{Accepted as Sound, Faulty}
 use Rattle.floor.specs.declared.Look.{Look}
 use Rattle.floor.specs.declared.Look.the-variants.{Inside, Refused}
-use Rattle.floor.specs.Stored.{Floor, Question, floorOf, questionOf}
-use Rattle.floor.specs.Tests.{questionRight}
+use Rattle.stored.specs.Stored.{Floor, Question, floorOf, questionOf}
+use Rattle.faults.specs.Tests.{questionRight}
 use Rattle.floor.specs.Where.{polygonOf, marksOf}
 use Rattle.floor.specs.Look.{floorLookOf, askOf, lookOf}
-use Rattle.floor.proofs.Records.{polygon-count}
+use Rattle.stored.proofs.Records.{polygon-count}
 use Rattle.floor.proofs.Looked.{question-length}
 use Rattle.floor.proofs.Exact.{floor-exactly}
 use Rattle.steps.specs.Steps.{seedNode}

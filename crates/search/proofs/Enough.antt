@@ -10,7 +10,7 @@ use lib.ListN.{length, drop}
 use Rattle.floor.specs.declared.Look.{Look}
 use Rattle.floor.specs.declared.Look.the-variants.{Inside, Refused}
 use Rattle.floor.specs.Look.{lookOf}
-use Rattle.floor.specs.Stored.{Floor, Question, floorOf, questionOf}
+use Rattle.stored.specs.Stored.{Floor, Question, floorOf, questionOf}
 use Rattle.machine.specs.declared.Task.{Task}
 use Rattle.machine.specs.declared.Finish.{Finish}
 use Rattle.machine.specs.declared.Finish.the-variants.{Arrived, Emptied, Filled, Stopped}

@@ -9,7 +9,7 @@ use mathlib.Core.Bool.{true}
 use mathlib.Core.List.{List, _++_}
 use borrow.Author.Tests.{eq-eqb}
 use lib.ListN.{length, length-append}
-use Rattle.floor.specs.Stored.{Floor, Question, floorOf}
+use Rattle.stored.specs.Stored.{Floor, Question, floorOf}
 use Rattle.route.specs.Record.{seedBytes, stepBytes}
 use Rattle.route.specs.World.{World, Lawful, Trail, seeded, stepped, TrueRoute}
 use Rattle.route.proofs.Bytes.{seed-is-32, end-is-32}

@@ -5,8 +5,8 @@ use native.Mathlib.Numerals.{add-one}
 use native.Mathlib.Omega.{arith}
 use mathlib.Core.Path.{_≡_, subst}
 use mathlib.Core.List.{List}
-use Rattle.floor.specs.Stored.{floorOf}
-use Rattle.floor.specs.Accepted.{Accepted}
+use Rattle.stored.specs.Stored.{floorOf}
+use Rattle.faults.specs.Accepted.{Accepted}
 use Rattle.steps.specs.declared.Node.{Node}
 use Rattle.machine.specs.declared.Task.{Task}
 use Rattle.machine.specs.declared.Finish.{Finish}

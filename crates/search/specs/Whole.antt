@@ -5,7 +5,7 @@ use mathlib.Core.Bool.{cond}
 use mathlib.Core.List.{List}
 use lib.Dec.{eqb}
 use Rattle.helpers.specs.declared.point.Point.{Point}
-use Rattle.floor.specs.Stored.{Floor, Question, floorOf, questionOf}
+use Rattle.stored.specs.Stored.{Floor, Question, floorOf, questionOf}
 use Rattle.floor.specs.declared.Look.{Look}
 use Rattle.floor.specs.declared.Look.the-variants.{Inside, Refused}
 use Rattle.floor.specs.Look.{lookOf, askOf}

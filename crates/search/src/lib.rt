@@ -3,7 +3,7 @@
 ghost use mathlib.Core.Path.{_≡_};
 ghost use Prim.Native.Nat.{_*_, _/_, _≤_, _<_};
 ghost use lib.ListN.{length};
-ghost use Rattle.floor.specs.Stored.{floorOf, questionOf};
+ghost use Rattle.stored.specs.Stored.{floorOf, questionOf};
 ghost use Rattle.places.specs.Layout.{workOf, Room};
 ghost use Rattle.machine.specs.Sound.{Ground};
 ghost use Rattle.search.specs.Whole.{searchedOf, routed, betweenOf, askedOf, searchOf};
@@ -77,8 +77,8 @@ fn route_between(
     if places == 0 {
         return Answer::NoPlaces;
     }
-    let start = floor::stored::question_start(question);
-    let goal = floor::stored::question_goal(question);
+    let start = stored::question_start(question);
+    let goal = stored::question_goal(question);
     let task = Task {
         slots: floor::SLOTS,
         goal,

@@ -6,7 +6,7 @@ use lib.Ieee.{add, neg, lt, le, eq, ofBits, odd, size}
 use Rattle.counts.specs.Counts.{first, table}
 use Rattle.helpers.specs.Point.{pointOf, fromBitsOf, plusOf, sameOf}
 use Rattle.walk.specs.declared.SuccessorType.the-variants.{Observable}
-use Rattle.floor.specs.Stored.{Floor, unused, corner, neighbour, cornerCount, cornerAfter, polygon, vertex, edge}
+use Rattle.stored.specs.Stored.{Floor, unused, corner, neighbour, cornerCount, cornerAfter, polygon, vertex, edge}
 use Rattle.route.specs.declared.Step.{Step}
 use Rattle.steps.specs.declared.Node.{Node}
 use Rattle.steps.specs.Steps.{isFinite, isInterval, wholeEdge, wholeEdges, candidates, isAllowed, clipped, stepOf, stepsOver, stepsFrom, seedNode, enter}

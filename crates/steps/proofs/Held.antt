@@ -18,7 +18,7 @@ use Rattle.walk.specs.declared.Part.{Part}
 use Rattle.walk.specs.Walk.{walkEdgeOf}
 use Rattle.walk.specs.Round.{Successor, cornerOf, edgeOf, successorsOn, walkOf, successorsOf}
 use Rattle.route.specs.Step.{HeldPoint}
-use Rattle.floor.specs.Stored.{Floor, vertex, edge, cornerCount, corner, polygon}
+use Rattle.stored.specs.Stored.{Floor, vertex, edge, cornerCount, corner, polygon}
 use Rattle.steps.specs.declared.Node.{Node}
 use Rattle.steps.specs.Steps.{wholeEdge, wholeEdges, successorsIn, candidates, clipped, rootAfter}
 use Rattle.walk.proofs.All.{All, all-append, all-of-map}

@@ -10,7 +10,7 @@ use Rattle.helpers.specs.declared.point.Segment.{Segment}
 use Rattle.cone.specs.declared.Clipped.{Clipped}
 use Rattle.cone.specs.declared.Clipped.the-variants.{Seen, Nothing}
 use Rattle.walk.specs.Round.{Successor}
-use Rattle.floor.specs.Stored.{Floor, unused, corner, neighbour, cornerAfter, polygon}
+use Rattle.stored.specs.Stored.{Floor, unused, corner, neighbour, cornerAfter, polygon}
 use Rattle.route.specs.declared.Step.{Step}
 use Rattle.route.specs.World.{_∈_}
 use Rattle.steps.specs.declared.Node.{Node}

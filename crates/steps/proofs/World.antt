@@ -12,7 +12,7 @@ use Rattle.word.proofs.Laws.{word-below}
 use Rattle.counts.specs.Counts.{table}
 use Rattle.counts.proofs.Laws.{getD-table, length-table}
 use Rattle.walk.specs.Round.{Successor}
-use Rattle.floor.specs.Stored.{Floor, Polygon, Question, unused, slotAt, polygonAt, floorOf, corner, neighbour, cornerAfter, polygon}
+use Rattle.stored.specs.Stored.{Floor, Polygon, Question, unused, slotAt, polygonAt, floorOf, corner, neighbour, cornerAfter, polygon}
 use Rattle.route.specs.declared.Step.{Step}
 use Rattle.route.specs.Step.{Held}
 use Rattle.route.specs.World.{Lawful, _∈_}

@@ -9,7 +9,7 @@ use Rattle.helpers.specs.declared.Turn.{Turn}
 use Rattle.helpers.specs.declared.Turn.the-variants.{Around, Straight}
 use Rattle.helpers.specs.Point.{distanceOf}
 use Rattle.helpers.specs.Helpers.{turningPointOf}
-use Rattle.floor.specs.Stored.{Floor, Question}
+use Rattle.stored.specs.Stored.{Floor, Question}
 use Rattle.floor.specs.Where.{polygonOf}
 use Rattle.route.specs.Record.{seedBytes, endBytes}
 use Rattle.route.specs.World.{World}

@@ -3,7 +3,7 @@
 ghost use mathlib.Core.Path.{_≡_};
 ghost use Prim.Native.Nat.{_+_, _*_, _/_, _≤_, _<_, _^_};
 ghost use lib.ListN.{length};
-ghost use Rattle.floor.specs.Stored.{floorOf};
+ghost use Rattle.stored.specs.Stored.{floorOf};
 ghost use Rattle.steps.specs.Steps.{seedNode, rootAfter, enter};
 ghost use Rattle.steps.specs.World.{endingOf};
 use helpers::Point;
@@ -68,10 +68,10 @@ impl Node {
         match kind {
             SuccessorType::Observable => self.root,
             SuccessorType::RightNonObservable => {
-                floor::stored::used_vertex(vertices, self.first as usize)
+                stored::used_vertex(vertices, self.first as usize)
             }
             SuccessorType::LeftNonObservable => {
-                floor::stored::used_vertex(vertices, self.second as usize)
+                stored::used_vertex(vertices, self.second as usize)
             }
         }
     }

@@ -10,7 +10,7 @@ use Rattle.walk.specs.declared.Part.{Part}
 use Rattle.walk.specs.Walk.{partAt}
 use Rattle.walk.specs.Round.{Successor}
 use Rattle.walk.specs.Turns.{isOverOf}
-use Rattle.floor.specs.Stored.{Floor, floorOf, polygonAt}
+use Rattle.stored.specs.Stored.{Floor, floorOf, polygonAt}
 use Rattle.route.specs.declared.Step.{Step}
 use Rattle.steps.specs.declared.Node.{Node}
 use Rattle.going.specs.declared.Going.{Going}

@@ -8,9 +8,9 @@ use borrow.Author.Tests.{ltb-true}
 use lib.Dec.{ltb}
 use lib.ListN.{length}
 use Rattle.float.proofs.Tests.{untrue}
-use Rattle.floor.specs.Stored.{Floor, Polygon, floorOf, polygon, cornerCount}
-use Rattle.floor.specs.Accepted.{Accepted}
-use Rattle.floor.proofs.Records.{polygon-count, vertex-count, polygon-is}
+use Rattle.stored.specs.Stored.{Floor, Polygon, floorOf, polygon, cornerCount}
+use Rattle.faults.specs.Accepted.{Accepted}
+use Rattle.stored.proofs.Records.{polygon-count, vertex-count, polygon-is}
 use Rattle.floor.proofs.Inside.{listed-of}
 use Rattle.steps.specs.declared.Node.{Node}
 use Rattle.steps.specs.Steps.{placeOf, entryOf}

@@ -7,7 +7,7 @@ use lib.ListN.{length, getD}
 use Rattle.helpers.specs.Point.{zero, fromBitsOf}
 use Rattle.floor.specs.declared.FloorLook.{FloorLook}
 use Rattle.floor.specs.declared.FloorLook.the-variants.{Accepted, Faulty}
-use Rattle.floor.specs.Stored.{Floor, Polygon, floorOf, cornerCount, polygon}
+use Rattle.stored.specs.Stored.{Floor, Polygon, floorOf, cornerCount, polygon}
 use Rattle.floor.specs.Look.{floorLookOf, refusalNumber}
 use Rattle.route.specs.Record.{stepWords}
 use Rattle.steps.specs.declared.Node.{Node}

@@ -4,8 +4,8 @@
 ghost use mathlib.Core.Path.{_≡_};
 ghost use Prim.Native.Nat.{_/_, _≤_};
 ghost use lib.ListN.{length};
-ghost use Rattle.floor.specs.Stored.{floorOf};
-ghost use Rattle.floor.specs.Accepted.{Accepted};
+ghost use Rattle.stored.specs.Stored.{floorOf};
+ghost use Rattle.faults.specs.Accepted.{Accepted};
 ghost use Rattle.steps_c.specs.Ask.{nodeOf, answerOn, answerOf, answerNumber, answerWritten};
 use floor::FloorLook;
 use floor::Refusal;

@@ -3,7 +3,7 @@
 ghost use mathlib.Core.Path.{_≡_};
 ghost use Prim.Native.Nat.{_/_, _<_};
 ghost use lib.ListN.{length};
-ghost use Rattle.floor.specs.Stored.{floorOf, polygonAt};
+ghost use Rattle.stored.specs.Stored.{floorOf, polygonAt};
 ghost use Rattle.steps_c.specs.Ask.{isEntered, isOn};
 use floor::SLOTS;
 use steps::Node;
@@ -17,7 +17,7 @@ fn is_entered(polygons: &[u8], node: Node) -> bool
         return true;
     }
     let p = node.polygon as usize;
-    let n = floor::stored::corner_count(polygons, SLOTS, p);
+    let n = stored::corner_count(polygons, SLOTS, p);
     going::place_of(polygons, SLOTS, p, n, node.second) < n
 }
 
@@ -26,7 +26,7 @@ pub fn is_on(vertices: &[u8], polygons: &[u8], node: Node) -> bool
     ensures { λ r. ⌜ r ≡ isOn (floorOf 8 (now (vertices .entry)) (now (polygons .entry))) node ⌝ }
 {
     let count = vertices.len() / 8;
-    if (node.polygon as usize) < floor::stored::polygon_count(polygons, SLOTS) {
+    if (node.polygon as usize) < stored::polygon_count(polygons, SLOTS) {
         return (node.first as usize) < count
             && ((node.second as usize) < count && is_entered(polygons, node));
     }

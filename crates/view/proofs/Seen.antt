@@ -3,7 +3,7 @@ use Prim.Native.Nat.{ℕ, _<_}
 use mathlib.Core.Path.{_≡_, refl, ap, _∙_}
 use mathlib.Core.Bool.{Bool, true, false, not, _&&_, cond}
 use mathlib.Core.List.{List}
-use Rattle.floor.specs.Stored.{Floor, polygon}
+use Rattle.stored.specs.Stored.{Floor, polygon}
 use Rattle.floor.specs.Where.{isTurn, isMarked, marksOf}
 use Rattle.floor.proofs.Turned.{marks-turn}
 use Rattle.helpers.specs.declared.point.Segment.{Segment}

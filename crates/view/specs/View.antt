@@ -13,7 +13,7 @@ use Rattle.cone.specs.Landing.{landsOnOf}
 use Rattle.walk.specs.declared.SuccessorType.{SuccessorType}
 use Rattle.walk.specs.declared.SuccessorType.the-variants.{LeftNonObservable, Observable, RightNonObservable}
 use Rattle.walk.specs.declared.Part.{Part}
-use Rattle.floor.specs.Stored.{Floor, Polygon, unused, corner, neighbour, cornerAfter, vertex}
+use Rattle.stored.specs.Stored.{Floor, Polygon, unused, corner, neighbour, cornerAfter, vertex}
 use Rattle.floor.specs.Where.{isTurn}
 use Rattle.steps.specs.declared.Node.{Node}
 use Rattle.view.specs.declared.Corner.{Corner}

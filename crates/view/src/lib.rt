@@ -3,18 +3,18 @@
 ghost use mathlib.Core.Path.{_≡_};
 ghost use Prim.Native.Nat.{_*_, _/_, _≤_, _<_};
 ghost use lib.ListN.{length};
-ghost use Rattle.floor.specs.Stored.{floorOf, polygonAt};
+ghost use Rattle.stored.specs.Stored.{floorOf, polygonAt};
 ghost use Rattle.floor.specs.Where.{marksOf};
 ghost use Rattle.steps.specs.Steps.{isFinite, isInterval};
 ghost use Rattle.view.specs.View.{cornerOn, viewOf, allowsOf, turnedTo, seenBy, stepBy};
 use cone::Clipped;
 use cone::Cone;
-use floor::stored::UNUSED;
 use helpers::Point;
 use helpers::Segment;
 use route::Step;
 use steps::Node;
 use steps::Permitted;
+use stored::UNUSED;
 use walk::Part;
 use walk::SuccessorType;
 
@@ -48,7 +48,7 @@ impl Corner {
         requires { ⌜ (v < length (now vertices) / 8) × (length (now vertices) / 8 ≤ 1024) × (now marks ≡ marksOf (floorOf slots (now vertices) (now polygons))) ⌝ }
         ensures { λ r. ⌜ r ≡ cornerOn (floorOf slots (now (vertices .entry)) (now (polygons .entry))) v end root ⌝ }
     {
-        let at = floor::stored::used_vertex(vertices, v as usize);
+        let at = stored::used_vertex(vertices, v as usize);
         let turns = floor::turns::turns(marks, v as usize);
         let lands = cone::lands_on(end, at, root);
         Corner {
@@ -158,7 +158,7 @@ impl View {
     {
         let node = self.node;
         let p = node.polygon as usize;
-        let neighbour = floor::stored::neighbour(polygons, slots, p, edge);
+        let neighbour = stored::neighbour(polygons, slots, p, edge);
         if neighbour == UNUSED {
             return Permitted::No;
         }
@@ -172,8 +172,8 @@ impl View {
                 if !is_interval(interval) {
                     return Permitted::No;
                 }
-                let first = floor::stored::corner(polygons, slots, p, edge);
-                let second = floor::stored::corner_after(polygons, slots, p, edge);
+                let first = stored::corner(polygons, slots, p, edge);
+                let second = stored::corner_after(polygons, slots, p, edge);
                 Permitted::Yes(Step {
                     kind,
                     polygon: neighbour,

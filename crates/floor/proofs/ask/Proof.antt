@@ -1,5 +1,5 @@
 use mathlib.Core.Path.{sym, _∙_}
-use Rattle.floor.proofs.Records.{polygon-count}
+use Rattle.stored.proofs.Records.{polygon-count}
 use Rattle.floor.proofs.Looked.{question-length}
 use borrow.Author.Needs.{needs}
 use borrow.Author.Tests.{le-leb}

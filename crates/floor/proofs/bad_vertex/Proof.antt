@@ -9,9 +9,9 @@ use native.Mathlib.Omega.{arith}
 use Rattle.floor.specs.Look.{badVertex}
 use mathlib.Core.Bool.{true, false, not}
 use lib.ListN.{length, getD}
-use Rattle.floor.specs.Stored.{floorOf, origin, polygon}
-use Rattle.floor.specs.Tests.{pointRight, cornersRight, linksRight}
-use Rattle.floor.proofs.Records.{vertex-count, polygon-count}
+use Rattle.stored.specs.Stored.{floorOf, origin, polygon}
+use Rattle.faults.specs.Tests.{pointRight, cornersRight, linksRight}
+use Rattle.stored.proofs.Records.{vertex-count, polygon-count}
 use Rattle.floor.proofs.bad_vertex.Statement.{statement}
 use Rattle.floor.proofs.bad_vertex.Tie as tie
 

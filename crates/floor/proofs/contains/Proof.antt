@@ -8,8 +8,8 @@ use Rattle.floor.specs.Where.{contains}
 use mathlib.Core.Bool.{true, false, not}
 use Rattle.helpers.specs.declared.EdgeSide.the-variants.{Right}
 use Rattle.helpers.specs.Helpers.{sideOf, sameSideOf}
-use Rattle.floor.specs.Stored.{floorOf, edge}
-use Rattle.floor.proofs.Records.{polygon-is}
+use Rattle.stored.specs.Stored.{floorOf, edge}
+use Rattle.stored.proofs.Records.{polygon-is}
 use Rattle.floor.proofs.contains.Statement.{statement}
 use Rattle.floor.proofs.contains.Tie as tie
 

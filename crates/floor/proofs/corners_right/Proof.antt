@@ -1,6 +1,6 @@
 -- `floor::corners_right` meets its contract: the polygon of the floor is the one that is stored. Assumes nothing.
 use denote.Ref.{now}
-use Rattle.floor.proofs.Records.{vertex-count, polygon-is}
+use Rattle.stored.proofs.Records.{vertex-count, polygon-is}
 use borrow.Author.Needs.{needs}
 use Rattle.floor.proofs.corners_right.Statement.{statement}
 use Rattle.floor.proofs.corners_right.Tie as tie

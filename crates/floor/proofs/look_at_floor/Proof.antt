@@ -3,14 +3,14 @@ use mathlib.Core.Bool.{not}
 use denote.Ref.{now}
 use Rattle.helpers.proofs.Cases.{taken}
 use native.Mathlib.Omega.{arith}
-use Rattle.floor.proofs.Decided.{length-decided}
-use Rattle.floor.proofs.Records.{vertex-count, polygon-count}
+use Rattle.faults.proofs.Decided.{length-decided}
+use Rattle.stored.proofs.Records.{vertex-count, polygon-count}
 use borrow.Author.Needs.{needs}
 use borrow.Author.Tests.{le-ltb}
 use borrow.Author.Tests.{lt-ltb}
 use borrow.Author.Tests.{not-false}
 use borrow.Author.Tests.{not-true}
-use Rattle.floor.specs.Tests.{lengthRight}
+use Rattle.faults.specs.Tests.{lengthRight}
 use Rattle.floor.specs.Look.{floorLookOf}
 use Rattle.floor.proofs.look_at_floor.Statement.{statement}
 use Rattle.floor.proofs.look_at_floor.Tie as tie

@@ -7,9 +7,9 @@ use mathlib.Core.Path.{_≡_, sym}
 use native.Mathlib.Omega.{arith}
 use Rattle.floor.specs.Where.{polygonOf}
 use mathlib.Core.Bool.{true, false, not}
-use Rattle.floor.specs.Stored.{floorOf}
+use Rattle.stored.specs.Stored.{floorOf}
 use Rattle.floor.specs.Where.{contains}
-use Rattle.floor.proofs.Records.{polygon-count}
+use Rattle.stored.proofs.Records.{polygon-count}
 use Rattle.floor.proofs.Inside.{listed-of}
 use Rattle.floor.proofs.polygon_of.Statement.{statement}
 use Rattle.floor.proofs.polygon_of.Tie as tie

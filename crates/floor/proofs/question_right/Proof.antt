@@ -1,7 +1,7 @@
 use borrow.Author.Needs.{needs}
 use borrow.Author.Tests.{eq-eqb}
 use borrow.Author.Tests.{ne-eqb}
-use Rattle.floor.specs.Tests.{questionRight}
+use Rattle.faults.specs.Tests.{questionRight}
 use Rattle.floor.proofs.question_right.Statement.{statement}
 use Rattle.floor.proofs.question_right.Tie as tie
 

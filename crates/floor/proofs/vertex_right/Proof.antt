@@ -1,6 +1,6 @@
 -- `floor::vertex_right` meets its contract: the vertex of the floor is the one that is stored. Assumes nothing.
 use denote.Ref.{now}
-use Rattle.floor.proofs.Records.{vertex-is}
+use Rattle.stored.proofs.Records.{vertex-is}
 use borrow.Author.Needs.{needs}
 use Rattle.floor.proofs.vertex_right.Statement.{statement}
 use Rattle.floor.proofs.vertex_right.Tie as tie

@@ -2,7 +2,7 @@
 use denote.Ref.{now}
 use borrow.Author.Needs.{needs}
 use mathlib.Core.Path.{sym, ap, _∙_, subst}
-use Rattle.floor.specs.Stored.{floorOf}
+use Rattle.stored.specs.Stored.{floorOf}
 use Rattle.going.specs.Going.{onEdge, beginGoing, Turning}
 use Rattle.going.proofs.Rounds.{begin-turning, seed-begins, node-begins}
 use Rattle.going.proofs.begin.Statement.{statement}

@@ -7,7 +7,7 @@ use borrow.Author.Tests.{ne-eqb}
 use mathlib.Core.Path.{_≡_, sym}
 use native.Mathlib.Omega.{arith}
 use Rattle.steps.specs.Steps.{placeOf}
-use Rattle.floor.specs.Stored.{polygonAt, corner}
+use Rattle.stored.specs.Stored.{polygonAt, corner}
 use mathlib.Core.Bool.{false}
 use lib.Dec.{eqb}
 use Rattle.going.proofs.place_of.Statement.{statement}

@@ -4,7 +4,7 @@ use mathlib.Core.Path.{sym, ap, _∙_}
 use lib.Dec.{lit<, lit≤}
 use borrow.Author.Needs.{needs}
 use denote.Ref.{now}
-use Rattle.floor.specs.Stored.{floorOf, questionOf}
+use Rattle.stored.specs.Stored.{floorOf, questionOf}
 use Rattle.judge.specs.declared.Verdict.the-variants.{Read}
 use Rattle.judge.specs.Verdict.{verdictOf}
 use Rattle.judge.proofs.Looking.{inside-tells, ready, as-asked}

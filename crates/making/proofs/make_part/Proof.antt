@@ -4,7 +4,7 @@ use denote.Ref.{now}
 use Prim.Native.Nat.{_*_, _/_, _<_}
 use mathlib.Core.Path.{sym, subst}
 use lib.ListN.{length}
-use Rattle.floor.specs.Stored.{floorOf}
+use Rattle.stored.specs.Stored.{floorOf}
 use Rattle.view.specs.declared.View.{View}
 use Rattle.places.specs.Layout.{workOf}
 use Rattle.machine.specs.Search.{stateOf}

@@ -2,7 +2,7 @@
 use borrow.Author.Needs.{needs}
 use denote.Ref.{now}
 use native.Mathlib.Omega.{arith}
-use Rattle.floor.specs.Stored.{floorOf}
+use Rattle.stored.specs.Stored.{floorOf}
 use Rattle.machine.specs.Search.{counted}
 use Rattle.popping.proofs.Stepping.{least-is, turns-empty, turns-on, popped-in, popped-low, popped-sound}
 use Rattle.popping.proofs.turn.Statement.{statement}

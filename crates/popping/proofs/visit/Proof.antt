@@ -3,7 +3,7 @@ use borrow.Author.Needs.{needs}
 use denote.Ref.{now}
 use native.Mathlib.Omega.{arith}
 use borrow.Author.Tests.{ne-eqb}
-use Rattle.floor.specs.Stored.{floorOf}
+use Rattle.stored.specs.Stored.{floorOf}
 use Rattle.places.specs.Layout.{workOf}
 use Rattle.machine.specs.Search.{stateOf}
 use Rattle.popping.proofs.Stepping.{visits-beaten, visits-goal, visits-full, visits-on, leaves-of}

@@ -6,7 +6,7 @@ use mathlib.Core.Bool.{true}
 use lib.ListN.{length}
 use borrow.Author.Needs.{needs}
 use denote.Ref.{now}
-use Rattle.floor.specs.Stored.{floorOf}
+use Rattle.stored.specs.Stored.{floorOf}
 use Rattle.route.specs.Judge.{lengthRight}
 use Rattle.route.proofs.Turns.{length-gives}
 use Rattle.steps.specs.World.{worldIn}

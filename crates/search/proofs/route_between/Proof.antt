@@ -2,7 +2,7 @@
 use borrow.Author.Needs.{needs}
 use denote.Ref.{now}
 use native.Mathlib.Omega.{arith}
-use Rattle.floor.specs.Stored.{floorOf, questionOf}
+use Rattle.stored.specs.Stored.{floorOf, questionOf}
 use Rattle.places.specs.Layout.{workOf}
 use Rattle.places.proofs.Rows.{places-room}
 use Rattle.search.proofs.Doors.{between-none, between-on}

@@ -3,7 +3,7 @@ use borrow.Author.Needs.{needs}
 use denote.Ref.{now}
 use native.Mathlib.Omega.{arith}
 use borrow.Author.Tests.{ne-eqb}
-use Rattle.floor.specs.Stored.{floorOf}
+use Rattle.stored.specs.Stored.{floorOf}
 use Rattle.places.specs.Layout.{workOf}
 use Rattle.search.proofs.Doors.{routes-straight, routes-search, routes-told}
 use Rattle.search.proofs.route_from.Statement.{statement}

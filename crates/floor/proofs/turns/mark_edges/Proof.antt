@@ -4,7 +4,7 @@ use mathlib.Core.Path.{_≡_, refl}
 use native.Mathlib.Numerals.{add-one}
 use native.Mathlib.Omega.{arith}
 use Rattle.floor.specs.Where.{markEdges}
-use Rattle.floor.specs.Stored.{polygonAt, floorOf}
+use Rattle.stored.specs.Stored.{polygonAt, floorOf}
 use Rattle.floor.proofs.Inside.{listed-of}
 use Rattle.floor.proofs.turns.mark_edges.Statement.{statement}
 use Rattle.floor.proofs.turns.mark_edges.Tie as tie

@@ -6,8 +6,8 @@ use native.Mathlib.Omega.{arith}
 use Rattle.floor.specs.Where.{markPolygons}
 use mathlib.Core.Path.{sym, _∙_}
 use denote.Ref.{now}
-use Rattle.floor.specs.Stored.{polygonAt, floorOf}
-use Rattle.floor.proofs.Records.{polygon-is}
+use Rattle.stored.specs.Stored.{polygonAt, floorOf}
+use Rattle.stored.proofs.Records.{polygon-is}
 use Rattle.floor.proofs.Inside.{listed-of}
 use Rattle.floor.proofs.turns.mark_polygons.Statement.{statement}
 use Rattle.floor.proofs.turns.mark_polygons.Tie as tie

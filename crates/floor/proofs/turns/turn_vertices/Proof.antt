@@ -1,6 +1,6 @@
 -- `floor::turns::turn_vertices` meets its contract. Assumes nothing.
 use Rattle.floor.specs.Where.{marksOf}
-use Rattle.floor.proofs.Records.{polygon-count}
+use Rattle.stored.proofs.Records.{polygon-count}
 use borrow.Author.Needs.{needs}
 use Rattle.floor.proofs.turns.turn_vertices.Statement.{statement}
 use Rattle.floor.proofs.turns.turn_vertices.Tie as tie

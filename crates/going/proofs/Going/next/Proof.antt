@@ -4,7 +4,7 @@ use borrow.Author.Tests.{lt-ltb, le-ltb}
 use native.Mathlib.Omega.{arith}
 use Prim.Native.Nat.{_<_}
 use mathlib.Core.Path.{sym, ap, _∙_, subst}
-use Rattle.floor.specs.Stored.{floorOf}
+use Rattle.stored.specs.Stored.{floorOf}
 use Rattle.walk.specs.declared.round.Round.{Round}
 use Rattle.going.specs.Going.{onEdge, Turning}
 use Rattle.going.proofs.Left.{part-below-three, next-taken-in, next-turning, next-part, next-over, next-edge}

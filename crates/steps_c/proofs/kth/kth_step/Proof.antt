@@ -6,7 +6,7 @@ use mathlib.Core.Path.{_≡_, sym, _∙_, subst}
 use lib.ListN.{length}
 use borrow.Author.Needs.{needs}
 use borrow.Author.Tests.{not-true, not-false}
-use Rattle.floor.specs.Stored.{floorOf}
+use Rattle.stored.specs.Stored.{floorOf}
 use Rattle.going.specs.declared.Going.{Going}
 use Rattle.view.specs.View.{viewOf}
 use Rattle.going.specs.Going.{leftIn, Goes}

@@ -5,7 +5,7 @@ use mathlib.Core.Path.{refl, subst}
 use borrow.Author.Needs.{needs}
 use borrow.Author.Tests.{le-ltb}
 use borrow.Author.Tests.{lt-ltb}
-use Rattle.floor.proofs.Records.{polygon-count, vertex-count, polygon-is}
+use Rattle.stored.proofs.Records.{polygon-count, vertex-count, polygon-is}
 use Rattle.steps_c.specs.Ask.{isOn}
 use Rattle.steps_c.proofs.stand.is_on.Statement.{statement}
 use Rattle.steps_c.proofs.stand.is_on.Tie as tie

@@ -3,7 +3,7 @@ use mathlib.Core.Path.{_≡_}
 use borrow.Author.Needs.{needs}
 use Rattle.cone.specs.declared.Cone.{Cone}
 use Rattle.cone.specs.Cone.{coneOf}
-use Rattle.floor.specs.Stored.{Floor, floorOf}
+use Rattle.stored.specs.Stored.{Floor, floorOf}
 use Rattle.steps.specs.declared.Node.{Node}
 use Rattle.view.specs.declared.Corner.{Corner}
 use Rattle.view.specs.View.{cornerOn, viewOf}

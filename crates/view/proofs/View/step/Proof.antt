@@ -1,7 +1,7 @@
 use mathlib.Core.Path.{refl}
 use borrow.Author.Needs.{needs}
 use lib.Dec.{eqb}
-use Rattle.floor.specs.Stored.{unused}
+use Rattle.stored.specs.Stored.{unused}
 use Rattle.helpers.proofs.Cases.{taken}
 use borrow.Author.Tests.{eq-eqb}
 use borrow.Author.Tests.{ne-eqb}

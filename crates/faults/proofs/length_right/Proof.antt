@@ -1,0 +1,35 @@
+use borrow.Author.Needs.{needs}
+use borrow.Author.Tests.{eq-eqb}
+use borrow.Author.Tests.{le-leb}
+use borrow.Author.Tests.{lt-leb}
+use borrow.Author.Tests.{ne-eqb}
+use Rattle.faults.specs.Tests.{lengthRight}
+use Rattle.faults.proofs.length_right.Statement.{statement}
+use Rattle.faults.proofs.length_right.Tie as tie
+
+div-count : tie.Need-div-count
+div-count c = search needs
+
+rem-if1 : tie.Need-rem-if1
+rem-if1 c = search needs
+
+returns : tie.Need-returns
+unfolding lengthRight
+returns c =
+    let c1 = c .before in
+    rw (eq-eqb _ _ (c1 .if1 .taken), le-leb _ _ (c .if2 .taken))
+
+returns-2 : tie.Need-returns-2
+unfolding lengthRight
+returns-2 c =
+    let c1 = c .before in
+    rw (eq-eqb _ _ (c1 .if1 .taken), lt-leb _ _ (c .if2 .left))
+
+returns-3 : tie.Need-returns-3
+unfolding lengthRight
+returns-3 c = rw (ne-eqb _ _ (c .if1 .left))
+
+pub length-right-spec : {M : Type 1} → statement M
+length-right-spec =
+    tie.close
+    (tie.spec div-count rem-if1 returns returns-2 returns-3)

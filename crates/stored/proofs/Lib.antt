@@ -1,0 +1,2 @@
+-- Where a record's words are: the laws that belong to no one function.
+pub mod Records

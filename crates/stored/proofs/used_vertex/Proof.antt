@@ -1,0 +1,23 @@
+use borrow.Author.Needs.{needs}
+use Rattle.stored.proofs.used_vertex.Statement.{statement}
+use Rattle.stored.proofs.used_vertex.Tie as tie
+
+stored-vertex-requires : tie.Need-stored-vertex-requires
+stored-vertex-requires c κs = search needs
+
+new-requires : tie.Need-new-requires
+new-requires c κs = search needs
+
+plus-requires : tie.Need-plus-requires
+plus-requires c κs = search needs
+
+returns : tie.Need-returns
+returns c =
+    let c1 = c .before in
+    let c2 = c1 .before in
+    rw (← c2 .stored-vertex .ensures, ← c1 .new .ensures, ← c .plus .ensures)
+
+pub used-vertex-spec : {M : Type 1} → statement M
+used-vertex-spec =
+    tie.close
+    (tie.spec stored-vertex-requires new-requires plus-requires returns)
