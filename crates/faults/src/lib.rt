@@ -133,8 +133,8 @@ fn is_back(polygons: &[u8], slots: usize, q: usize, p: u32, a: u32, b: u32, j: u
         && (corner_after(polygons, slots, q, j) == a && neighbour(polygons, slots, q, j) == p)
 }
 
-// 6: one of q's edges runs from b to a and has p across it. Its corners end at the first unused slot: a link is looked for once,
-// so they are not counted before.
+// 6: one of q's edges runs from b to a and has p across it. The look ends at q's first unused slot, so that its
+// corners are not counted for every link.
 fn names_back(polygons: &[u8], slots: usize, q: usize, p: u32, a: u32, b: u32) -> bool
     requires { ⌜ (slots ≤ 16) × (q < length (now polygons) / (slots * 8)) ⌝ }
     ensures { λ r. ⌜ r ≡ namesBack (polygonAt slots (now (polygons .entry)) q) p a b ⌝ }

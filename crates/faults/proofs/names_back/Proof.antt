@@ -2,8 +2,8 @@
 use Prim.Native.Nat.{ℕ, _≤_, _<_, _-_}
 use native.Mathlib.Nat.{lt-of-lt-of-le}
 use native.Mathlib.Omega.{arith}
-use mathlib.Core.Path.{_≡_, sym, _∙_}
-use mathlib.Core.Bool.{true, false}
+use mathlib.Core.Path.{_≡_, sym}
+use mathlib.Core.Bool.{Bool, true, false}
 use borrow.Author.Count.{below-none, below-more}
 use borrow.Author.Needs.{needs}
 use lib.Dec.{eqb}
@@ -14,6 +14,10 @@ use Rattle.faults.specs.Tests.{isBack, namesBack}
 use Rattle.stored.proofs.Records.{count-slots, count-upto, count-past}
 use Rattle.faults.proofs.names_back.Statement.{statement}
 use Rattle.faults.proofs.names_back.Tie as tie
+
+-- what the test of a slot says of the corner that was read there
+tested : {slot corner : ℕ} {answer test : Bool} → slot ≡ corner → answer ≡ eqb slot unused → answer ≡ test → eqb corner unused ≡ test
+tested read said t = rw (← read, ← said) t
 
 abbrev Inv-loop : tie.InvT-loop
 Inv-loop polygons slots q p a b j₀ j =
@@ -39,7 +43,7 @@ returns c =
     let u = c .before in
     let l = u .before .before .before in
     let a = l .before .before .args in
-    let end = count-upto (a .slots) (now (a .polygons)) (a .q) (l .loop .j) (omega arith) (rw (← u .before .corner .ensures, ← u .is-unused .ensures, c .if1 .taken)) in
+    let end = count-upto (a .slots) (now (a .polygons)) (a .q) (l .loop .j) (omega arith) (tested (u .before .corner .ensures) (u .is-unused .ensures) (c .if1 .taken)) in
     sym (some-false _ _ (λ k h. l .loop .inv .2 k (lt-of-lt-of-le h end)))
 
 is-back-requires : tie.Need-is-back-requires Inv-loop μ-loop
@@ -51,7 +55,7 @@ returns-2 c =
     let u = c .before .before .before in
     let l = u .before .before .before in
     let a = l .before .before .args in
-    let used = below-more _ _ (l .loop .inv .1) (rw (← u .before .corner .ensures, ← u .is-unused .ensures, c .before .before .if1 .left)) in
+    let used = below-more _ _ (l .loop .inv .1) (tested (u .before .corner .ensures) (u .is-unused .ensures) (c .before .before .if1 .left)) in
     sym (some-true _ _ (l .loop .j) (count-past (a .slots) (now (a .polygons)) (a .q) (l .loop .j) (omega arith) used) (rw (← c .before .is-back .ensures, c .if2 .taken)))
 
 add-j : tie.Need-add-j Inv-loop μ-loop
@@ -65,7 +69,7 @@ loop-again c =
     let u = c .before .before .before in
     let l = u .before .before .before in (
       omega arith,
-      below-more _ _ (l .loop .inv .1) (rw (← u .before .corner .ensures, ← u .is-unused .ensures, c .before .before .if1 .left)),
+      below-more _ _ (l .loop .inv .1) (tested (u .before .corner .ensures) (u .is-unused .ensures) (c .before .before .if1 .left)),
       below-more _ _ (l .loop .inv .2) (rw (← c .before .is-back .ensures, c .if2 .left)),
     )
 
