@@ -39,7 +39,7 @@ enum {
    CART_NODE_TREE * n words for the tree, and CART_RECORD_BYTES * (n + 1) bytes for the route: then 13 never comes. */
 enum {
     CART_NODE_FLOATS = 11,
-    CART_NODE_WORDS = 7,
+    CART_NODE_WORDS = 8,
     CART_NODE_TREE = 2,
     CART_MOST_NODES = 4096,  /* room for more is not used */
     CART_BUDGET = 4096       /* the budget where there is no reason for another */

@@ -10,6 +10,7 @@ use Rattle.float.proofs.Tests.{untrue}
 use lib.ListN.{length}
 use Rattle.helpers.specs.declared.point.Point.{Point}
 use Rattle.helpers.specs.Point as point
+use Rattle.helpers.specs.Point.{sameOf}
 use Rattle.stored.specs.Stored.{Floor, floorOf}
 use Rattle.faults.specs.Accepted.{Accepted}
 use Rattle.route.specs.World.{_∈_}
@@ -23,11 +24,12 @@ use Rattle.queue.proofs.Change.{queued-is, tree-of-own}
 use Rattle.queue.proofs.Lent.{cleared-length, cleared-tree}
 use Rattle.machine.specs.declared.Task.{Task}
 use Rattle.machine.specs.declared.Finish.the-variants.{Filled}
-use Rattle.places.specs.Layout.{Work, Room, nodeAt, depthAt, fAt, isQueued, putFloats, putWords, recordPut}
+use Rattle.places.specs.Layout.{Work, Room, nodeAt, depthAt, numberAt, fAt, isQueued, putFloats, putWords, recordPut}
 use Rattle.machine.specs.Search.{State}
 use Rattle.machine.specs.Search as search
-use Rattle.machine.specs.Sound.{isPlus, Held, Sound}
-use Rattle.places.proofs.Rows.{node-same, node-put, depth-put, put-floats-length, put-words-length, record-length, record-beside}
+use Rattle.machine.specs.Sound.{isPlus, Held, Sound, OnRecord, Numbered}
+use Rattle.places.proofs.Rows.{node-same, node-put, depth-put, number-put, put-floats-length, put-words-length, record-length, record-beside}
+use Rattle.places.proofs.Records.{record-root-there, record-for-new}
 use Rattle.machine.proofs.Kept.{Origins, sound-made-all, Finishes, sound-run}
 
 module _ (vs ps : List ℕ) (t : Task) (slots-some : 0 < t .slots) (slots-few : t .slots ≤ 16) (accepted : Accepted (floorOf (t .slots) vs ps)) (vertices : 1 ≤ length vs / 8) (start : Point) (p : ℕ) (listed : p < length ps / (t .slots * 8)) (w : Work) (room : Room (t .places) w) (places : 1 ≤ t .places) where
@@ -46,7 +48,7 @@ module _ (vs ps : List ℕ) (t : Task) (slots-some : 0 < t .slots) (slots-few : 
   floats-room : (0 + 1) * 11 ≤ length (w .floats)
   floats-room = omega (arith, room .floats-room, places)
 
-  words-room : (0 + 1) * 7 ≤ length (w .words)
+  words-room : (0 + 1) * 8 ≤ length (w .words)
   words-room = omega (arith, room .words-room, places)
 
   seeded : eqb 1 1 ≡ seed .seed
@@ -56,12 +58,23 @@ module _ (vs ps : List ℕ) (t : Task) (slots-some : 0 < t .slots) (slots-few : 
   its-seed : nodeAt (first .work) 0 ≡ seed
   unfolding search.begun search.planted
   its-seed =
-      node-same (recordPut (putFloats (w .floats) 0 seed point.zero) 0 (seed .root) point.zero) (putFloats (w .floats) 0 seed point.zero) 0 (record-beside (putFloats (w .floats) 0 seed point.zero) 0 (seed .root) point.zero 0) (putWords (w .words) 0 1 seed 0 0) (putWords (w .words) 0 1 seed 0 0) (λ k b. refl)
-      ∙ node-put (w .words) 0 1 seed 0 0 words-room (w .floats) point.zero floats-room seeded
+      node-same (recordPut (putFloats (w .floats) 0 seed point.zero) 0 (seed .root) point.zero) (putFloats (w .floats) 0 seed point.zero) 0 (record-beside (putFloats (w .floats) 0 seed point.zero) 0 (seed .root) point.zero 0) (putWords (w .words) 0 1 seed 0 0 0) (putWords (w .words) 0 1 seed 0 0 0) (λ k b. refl)
+      ∙ node-put (w .words) 0 1 seed 0 0 0 words-room (w .floats) point.zero floats-room seeded
 
   its-depth : depthAt (first .work) 0 ≡ 0
   unfolding search.begun search.planted
-  its-depth = depth-put (w .words) 0 1 seed 0 0 words-room
+  its-depth = depth-put (w .words) 0 1 seed 0 0 0 words-room
+
+  its-number : numberAt (first .work) 0 ≡ 0
+  unfolding search.begun search.planted
+  its-number = number-put (w .words) 0 1 seed 0 0 0 words-room
+
+  pub on-first : sameOf start start ≡ true → OnRecord first (seed .root) 0
+  unfolding search.begun search.planted seedNode
+  on-first self = record {
+    found = record-for-new (first .work .floats) (putFloats (w .floats) 0 seed point.zero) 0 start (λ k l. absurd (omega arith)) (omega arith) (record-root-there (putFloats (w .floats) 0 seed point.zero) 0 start point.zero (rw (put-floats-length (w .floats) 0 seed point.zero) floats-room)) self;
+    low = omega arith;
+  }
 
   abbrev nothing : ℕ → Bool
   nothing i = false
@@ -88,7 +101,7 @@ module _ (vs ps : List ℕ) (t : Task) (slots-some : 0 < t .slots) (slots-few : 
   unfolding search.begun search.planted
   first-room = record {
     floats-room = rw (record-length (putFloats (w .floats) 0 seed point.zero) 0 (seed .root) point.zero, put-floats-length (w .floats) 0 seed point.zero) (room .floats-room);
-    words-room = rw (put-words-length (w .words) 0 1 seed 0 0) (room .words-room);
+    words-room = rw (put-words-length (w .words) 0 1 seed 0 0 0) (room .words-room);
     queue-room = rw (cleared-length (2 * n) (w .queue) (room .queue-room)) (room .queue-room);
     few = room .few;
   }
@@ -121,6 +134,16 @@ module _ (vs ps : List ℕ) (t : Task) (slots-some : 0 < t .slots) (slots-few : 
       lowest : (i : ℕ) → i < 1 → 0 ≡ i
       lowest i l = omega arith
 
+  -- the seed keeps the number of the first record, which is its root's
+  numbered-begun : sameOf start start ≡ true → Numbered first
+  numbered-begun self i l = subst (λ (m : ℕ). OnRecord first (nodeAt (first .work) m .root) (numberAt (first .work) m)) (lowest i l) own
+    where
+      lowest : (i : ℕ) → i < first .counts .taken → 0 ≡ i
+      lowest i l = unfold search.begun in omega arith
+
+      own : OnRecord first (nodeAt (first .work) 0 .root) (numberAt (first .work) 0)
+      own = rw (its-seed, its-number) (on-first self)
+
   -- ---- the seed's steps are made, and the search runs
 
   origins : Origins vs ps t seed first (search.seedOrigin f t seed)
@@ -136,6 +159,9 @@ module _ (vs ps : List ℕ) (t : Task) (slots-some : 0 < t .slots) (slots-few : 
 
   pub sound-seeded : Sound vs ps t seed (search.madeAll f t first (search.seedOrigin f t seed) steps .state)
   sound-seeded = sound-made-all vs ps t seed slots-some slots-few accepted steps first (search.seedOrigin f t seed) sound-begun origins own .sound
+
+  pub numbered-seeded : sameOf start start ≡ true → Numbered (search.madeAll f t first (search.seedOrigin f t seed) steps .state)
+  numbered-seeded self = sound-made-all vs ps t seed slots-some slots-few accepted steps first (search.seedOrigin f t seed) sound-begun origins own .numbered (numbered-begun self)
 
   -- however it ends, what it leaves is sound, and where it arrives is a place in the goal polygon
   pub sound-searched : (budget : ℕ) → Finishes vs ps t seed slots-some slots-few accepted (search.searchedFrom f t start p budget w)

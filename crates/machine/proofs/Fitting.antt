@@ -64,7 +64,7 @@ module _ (t : Task) where
       (record {
         room = record {
           floats-room = rw (put-floats-length (s .work .floats) (s .counts .taken) node f) (h .room .floats-room);
-          words-room = rw (put-words-length (s .work .words) (s .counts .taken) kind node (o .place) (o .depth + 1)) (h .room .words-room);
+          words-room = rw (put-words-length (s .work .words) (s .counts .taken) kind node (o .place) (o .depth + 1) (recordFor (s .work .floats) (s .counts .records) (node .root))) (h .room .words-room);
           queue-room = h .room .queue-room;
           few = h .room .few;
         };

@@ -35,11 +35,12 @@ use Rattle.machine.specs.declared.Origin.{Origin}
 use Rattle.machine.specs.declared.Finish.the-variants.{Arrived, Emptied, Filled, Stopped}
 use Rattle.machine.specs.declared.Outcome.{Outcome}
 use Rattle.machine.specs.declared.Outcome.the-variants.{Goes, Ends}
-use Rattle.places.specs.Layout.{Work, workOf, wordAt, nodeAt, stepAt, parentAt, depthAt, fAt, isQueued, putNode, recordFor, putRecord, recordPut, putDistance, distancePut, putQueued, leastIn}
+use Rattle.places.specs.Layout.{Work, workOf, wordAt, nodeAt, stepAt, parentAt, depthAt, numberAt, fAt, isQueued, putNode, recordFor, putRecord, recordPut, putDistance, distancePut, putQueued, leastIn}
 use Rattle.machine.specs.Search.{State, stateOf, tookPlace, tookRecord, counted}
 use Rattle.machine.specs.Search as search
-use Rattle.machine.specs.Sound.{isPlus, Entered, Held, Sound}
-use Rattle.places.proofs.Rows.{SameFloats, SameWords, which, node-same, step-same, f-same, parent-same, depth-same, put-floats-length, put-words-length, floats-elsewhere, words-elsewhere, f-put, node-put, step-put, parent-put, depth-put, record-length, record-beside, distance-length, distance-beside}
+use Rattle.machine.specs.Sound.{isPlus, Entered, Held, Sound, OnRecord, Numbered}
+use Rattle.places.proofs.Rows.{SameFloats, SameWords, which, node-same, step-same, f-same, parent-same, depth-same, number-same, put-floats-length, put-words-length, floats-elsewhere, words-elsewhere, f-put, node-put, step-put, parent-put, depth-put, number-put, record-length, record-beside, distance-length, distance-beside}
+use Rattle.machine.proofs.Numbers.{made-self, on-taken, own-taken}
 use Rattle.machine.proofs.Plus.{add-plus, add-no-nan, distance-plus, heuristic-plus, plus-if}
 
 module _ (vs ps : List ℕ) (t : Task) (seed : Node) where
@@ -64,6 +65,9 @@ module _ (vs ps : List ℕ) (t : Task) (seed : Node) where
 
     depth-kept : (i : ℕ) → i < low → depthAt new i ≡ depthAt old i
     depth-kept i l = depth-same (new .words) (old .words) i (ws i l)
+
+    number-kept : (i : ℕ) → i < low → numberAt new i ≡ numberAt old i
+    number-kept i l = number-same (new .words) (old .words) i (ws i l)
 
     held-kept : (i : ℕ) → i < low → Held (t .slots) vs ps old i → Held (t .slots) vs ps new i
     held-kept i l h =
@@ -176,15 +180,17 @@ module _ (vs ps : List ℕ) (t : Task) (seed : Node) where
     pub more : s .counts .taken ≤ after .counts .taken
     pub node-as : (i : ℕ) → i < s .counts .taken → nodeAt (after .work) i ≡ nodeAt (s .work) i
     pub depth-as : (i : ℕ) → i < s .counts .taken → depthAt (after .work) i ≡ depthAt (s .work) i
+    pub number-as : (i : ℕ) → i < s .counts .taken → numberAt (after .work) i ≡ numberAt (s .work) i
 
   grows-self : (s : State) → Grows s s
-  grows-self s = record { more = omega arith; node-as = λ i l. refl; depth-as = λ i l. refl }
+  grows-self s = record { more = omega arith; node-as = λ i l. refl; depth-as = λ i l. refl; number-as = λ i l. refl }
 
   grows-on : (a b c : State) → Grows a b → Grows b c → Grows a c
   grows-on a b c g h = record {
     more = omega (arith, g .more, h .more);
     node-as = λ i l. h .node-as i (omega (arith, l, g .more)) ∙ g .node-as i l;
     depth-as = λ i l. h .depth-as i (omega (arith, l, g .more)) ∙ g .depth-as i l;
+    number-as = λ i l. h .number-as i (omega (arith, l, g .more)) ∙ g .number-as i l;
   }
 
   module _ (s : State) (node : Node) where
@@ -223,6 +229,7 @@ module _ (vs ps : List ℕ) (t : Task) (seed : Node) where
       more = rw recorded-taken (omega arith);
       node-as = node-kept (search.recorded s node .work) (s .work) (s .counts .taken) (λ i l. recorded-floats i) (λ i l. same-words i);
       depth-as = depth-kept (search.recorded s node .work) (s .work) (s .counts .taken) (λ i l. recorded-floats i) (λ i l. same-words i);
+      number-as = number-kept (search.recorded s node .work) (s .work) (s .counts .taken) (λ i l. recorded-floats i) (λ i l. same-words i);
     }
 
   -- ---- a node takes the next place
@@ -244,8 +251,11 @@ module _ (vs ps : List ℕ) (t : Task) (seed : Node) where
       abbrev i : ℕ
       i = s .counts .taken
 
+      abbrev number : ℕ
+      number = recordFor (s .work .floats) (s .counts .records) (node .root)
+
       abbrev new : Work
-      new = putNode (s .work) i kind node value (o .place) (o .depth + 1)
+      new = putNode (s .work) i kind node value (o .place) (o .depth + 1) number
 
       origin-held : Held (t .slots) vs ps (s .work) (o .place)
       origin-held = h .held (o .place) (from .place-in)
@@ -277,7 +287,7 @@ module _ (vs ps : List ℕ) (t : Task) (seed : Node) where
       floats-room : (i + 1) * 11 ≤ length (s .work .floats)
       floats-room = omega (arith, h .fit .room .floats-room, space)
 
-      words-room : (i + 1) * 7 ≤ length (s .work .words)
+      words-room : (i + 1) * 8 ≤ length (s .work .words)
       words-room = omega (arith, h .fit .room .words-room, space)
 
       seed-kind : eqb kind 1 ≡ node .seed
@@ -290,17 +300,17 @@ module _ (vs ps : List ℕ) (t : Task) (seed : Node) where
           go LeftNonObservable = refl
 
       pub its-node : nodeAt new i ≡ node
-      its-node = node-put (s .work .words) i kind node (o .place) (o .depth + 1) words-room (s .work .floats) value floats-room seed-kind
+      its-node = node-put (s .work .words) i kind node (o .place) (o .depth + 1) number words-room (s .work .floats) value floats-room seed-kind
 
       its-step : stepAt new i ≡ step
       unfolding enter
-      its-step = step-put (s .work .words) i kind node (o .place) (o .depth + 1) words-room (s .work .floats) value floats-room step refl refl refl refl refl
+      its-step = step-put (s .work .words) i kind node (o .place) (o .depth + 1) number words-room (s .work .floats) value floats-room step refl refl refl refl refl
 
       its-parent : parentAt new i ≡ o .place
-      its-parent = parent-put (s .work .words) i kind node (o .place) (o .depth + 1) words-room
+      its-parent = parent-put (s .work .words) i kind node (o .place) (o .depth + 1) number words-room
 
       its-depth : depthAt new i ≡ o .depth + 1
-      its-depth = depth-put (s .work .words) i kind node (o .place) (o .depth + 1) words-room
+      its-depth = depth-put (s .work .words) i kind node (o .place) (o .depth + 1) number words-room
 
       pub its-f : fAt new i ≡ value
       its-f = f-put (s .work .floats) i node value floats-room
@@ -309,13 +319,19 @@ module _ (vs ps : List ℕ) (t : Task) (seed : Node) where
       floats-below j l k b = floats-elsewhere (s .work .floats) i node value j k (omega arith) (inl (λ e. omega arith))
 
       words-below : (j : ℕ) → j < i → SameWords (new .words) (s .work .words) j
-      words-below j l k b = words-elsewhere (s .work .words) i kind node (o .place) (o .depth + 1) j k b (λ e. omega arith)
+      words-below j l k b = words-elsewhere (s .work .words) i kind node (o .place) (o .depth + 1) number j k b (λ e. omega arith)
 
       pub node-below : (j : ℕ) → j < i → nodeAt new j ≡ nodeAt (s .work) j
       node-below = node-kept new (s .work) i floats-below words-below
 
       pub depth-below : (j : ℕ) → j < i → depthAt new j ≡ depthAt (s .work) j
       depth-below = depth-kept new (s .work) i floats-below words-below
+
+      number-below : (j : ℕ) → j < i → numberAt new j ≡ numberAt (s .work) j
+      number-below = number-kept new (s .work) i floats-below words-below
+
+      its-number : numberAt new i ≡ number
+      its-number = number-put (s .work .words) i kind node (o .place) (o .depth + 1) number words-room
 
       new-held : Held (t .slots) vs ps new i
       new-held = record {
@@ -342,7 +358,7 @@ module _ (vs ps : List ℕ) (t : Task) (seed : Node) where
         fit = record {
           room = record {
             floats-room = rw (put-floats-length (s .work .floats) i node value) (h .fit .room .floats-room);
-            words-room = rw (put-words-length (s .work .words) i kind node (o .place) (o .depth + 1)) (h .fit .room .words-room);
+            words-room = rw (put-words-length (s .work .words) i kind node (o .place) (o .depth + 1) number) (h .fit .room .words-room);
             queue-room = h .fit .room .queue-room;
             few = h .fit .room .few;
           };
@@ -401,7 +417,7 @@ module _ (vs ps : List ℕ) (t : Task) (seed : Node) where
 
       grows-placed : Grows s put-down
       unfolding search.placed tookPlace
-      grows-placed = record { more = omega arith; node-as = node-below; depth-as = depth-below }
+      grows-placed = record { more = omega arith; node-as = node-below; depth-as = depth-below; number-as = number-below }
 
       pub grows-taken : Grows s (search.taken n s o kind node value)
       unfolding search.taken search.kept search.queued
@@ -409,7 +425,47 @@ module _ (vs ps : List ℕ) (t : Task) (seed : Node) where
         where
           go : (b : Bool) → Grows s (cond b put-down (stateOf (putQueued n (recorded-down .work) i true) (recorded-down .counts)))
           go true = grows-placed
-          go false = grows-on s recorded-down (stateOf (putQueued n (recorded-down .work) i true) (recorded-down .counts)) (grows-on s put-down recorded-down grows-placed (grows-recorded put-down node)) (record { more = omega arith; node-as = λ j l. refl; depth-as = λ j l. refl })
+          go false = grows-on s recorded-down (stateOf (putQueued n (recorded-down .work) i true) (recorded-down .counts)) (grows-on s put-down recorded-down grows-placed (grows-recorded put-down node)) (record { more = omega arith; node-as = λ j l. refl; depth-as = λ j l. refl; number-as = λ j l. refl })
+
+      -- ---- it keeps the number of its root's record
+
+      node-taken : nodeAt (search.taken n s o kind node value .work) i ≡ node
+      unfolding search.taken search.kept search.queued search.placed tookPlace
+      node-taken = go (search.isBeaten put-down node)
+        where
+          go : (b : Bool) → nodeAt ((cond b put-down (stateOf (putQueued n (recorded-down .work) i true) (recorded-down .counts))) .work) i ≡ node
+          go true = its-node
+          go false = grows-recorded put-down node .node-as i (omega arith) ∙ its-node
+
+      number-taken : numberAt (search.taken n s o kind node value .work) i ≡ number
+      unfolding search.taken search.kept search.queued search.placed tookPlace
+      number-taken = go (search.isBeaten put-down node)
+        where
+          go : (b : Bool) → numberAt ((cond b put-down (stateOf (putQueued n (recorded-down .work) i true) (recorded-down .counts))) .work) i ≡ number
+          go true = its-number
+          go false = grows-recorded put-down node .number-as i (omega arith) ∙ its-number
+
+      taken-one : search.taken n s o kind node value .counts .taken ≡ i + 1
+      unfolding search.taken search.kept search.queued
+      taken-one = go (search.isBeaten put-down node)
+        where
+          go : (b : Bool) → (cond b put-down (stateOf (putQueued n (recorded-down .work) i true) (recorded-down .counts))) .counts .taken ≡ i + 1
+          go true = taken-down
+          go false = recorded-taken put-down node ∙ taken-down
+
+      pub numbered-taken : sameOf (node .root) (node .root) ≡ true → Numbered s → Numbered (search.taken n s o kind node value)
+      numbered-taken self numbered j l = go (which i j)
+        where
+          after : State
+          after = search.taken n s o kind node value
+
+          own : OnRecord after (nodeAt (after .work) i .root) (numberAt (after .work) i)
+          own = rw (node-taken, number-taken) (own-taken node self n s o kind value (omega (arith, h .fit .records-in, h .fit .room .floats-room, space)))
+
+          go : (j < i) ⊎ ((j ≡ i) ⊎ (i < j)) → OnRecord after (nodeAt (after .work) j .root) (numberAt (after .work) j)
+          go (inl d) = rw (grows-taken .node-as j d, grows-taken .number-as j d) (on-taken (nodeAt (s .work) j .root) (numberAt (s .work) j) n s o kind node value (numbered j d))
+          go (inr (inl e)) = subst (λ (m : ℕ). OnRecord after (nodeAt (after .work) m .root) (numberAt (after .work) m)) (sym e) own
+          go (inr (inr d)) = absurd (omega (arith, taken-one, l, d))
 
     -- ---- nodes are made
 
@@ -420,6 +476,7 @@ module _ (vs ps : List ℕ) (t : Task) (seed : Node) where
     pub record Makes (s : State) (o : Origin) (after : State) : Type 0 where
       pub sound : Sound vs ps t seed after
       pub grows : Grows s after
+      pub numbered : Numbered s → Numbered after
 
     pub origins-on : (s after : State) (o : Origin) → Grows s after → Origins s o → Origins after o
     origins-on s after o g from = record {
@@ -443,17 +500,18 @@ module _ (vs ps : List ℕ) (t : Task) (seed : Node) where
 
         go : (a : Bool) → isNan (node' .length) ≡ a → (b : Bool) → isNan (heuristicOf (node' .root) (t .goal) (node' .interval)) ≡ b → (c : Bool) → leb n (s .counts .taken) ≡ c
             → Makes s o ((cond (a || b) (search.making s false) (cond c (search.making s true) (search.making (search.taken n s o (kindNumber (step .kind)) node' value') false))) .state)
-        go true x b y c z = record { sound = h; grows = grows-self s }
-        go false x true y c z = record { sound = h; grows = grows-self s }
-        go false x false y true z = record { sound = h; grows = grows-self s }
+        go true x b y c z = record { sound = h; grows = grows-self s; numbered = λ m. m }
+        go false x true y c z = record { sound = h; grows = grows-self s; numbered = λ m. m }
+        go false x false y true z = record { sound = h; grows = grows-self s; numbered = λ m. m }
         go false x false y false z = record {
           sound = sound-taken s o step value' h from permitted (leb-false n (s .counts .taken) z) (add-no-nan binary32 _ _ (node-plus s o step value' h from permitted (leb-false n (s .counts .taken) z)) (heuristic-plus _ _ _) (no _ x) (no _ y));
           grows = grows-taken s o step value' h from permitted (leb-false n (s .counts .taken) z);
+          numbered = numbered-taken s o step value' h from permitted (leb-false n (s .counts .taken) z) (made-self f (o .node) step x);
         }
 
     pub sound-made-all : (steps : List Step) (s : State) (o : Origin) → Sound vs ps t seed s → Origins s o → ((step : Step) → step ∈ steps → step ∈ stepsFrom f (t .polygon) (o .node)) → Makes s o (search.madeAll f t s o steps .state)
     unfolding search.madeAll
-    sound-made-all [] s o h from permitted = record { sound = h; grows = grows-self s }
+    sound-made-all [] s o h from permitted = record { sound = h; grows = grows-self s; numbered = λ m. m }
     sound-made-all (step ∷ steps) s o h from permitted =
         let m = sound-made s o step h from (permitted step (List·Memᴰ·head refl)) in
         go (search.made f t s o step .full) m (sound-made-all steps (search.made f t s o step .state) o (m .sound) (origins-on s (search.made f t s o step .state) o (m .grows) from) (λ x e. permitted x (List·Memᴰ·tail e)))
@@ -461,7 +519,7 @@ module _ (vs ps : List ℕ) (t : Task) (seed : Node) where
         go : (b : Bool) → Makes s o (search.made f t s o step .state) → Makes (search.made f t s o step .state) o (search.madeAll f t (search.made f t s o step .state) o steps .state)
             → Makes s o ((cond b (search.made f t s o step) (search.madeAll f t (search.made f t s o step .state) o steps)) .state)
         go true m r = m
-        go false m r = record { sound = r .sound; grows = grows-on s (search.made f t s o step .state) (search.madeAll f t (search.made f t s o step .state) o steps .state) (m .grows) (r .grows) }
+        go false m r = record { sound = r .sound; grows = grows-on s (search.made f t s o step .state) (search.madeAll f t (search.made f t s o step .state) o steps .state) (m .grows) (r .grows); numbered = λ x. r .numbered (m .numbered x) }
 
     -- ---- a step
 
@@ -524,6 +582,44 @@ module _ (vs ps : List ℕ) (t : Task) (seed : Node) where
     popped-below : (s : State) → Sound vs ps t seed s → eqb (leastIn n (s .work)) none ≡ false → leastIn n (s .work) < search.popped f t s (leastIn n (s .work)) .counts .taken
     unfolding search.popped counted
     popped-below = popped-taken
+
+    -- ---- every place keeps the number of its root's record
+
+    numbered-after : (m : search.Making) → Numbered (m .state) → Numbered (search.afterMaking f t m .state)
+    numbered-after m h = go (m .full)
+      where
+        go : (b : Bool) → Numbered ((cond b (search.stepping (m .state) (Ends Filled)) (search.stepping (m .state) Goes)) .state)
+        go true = h
+        go false = h
+
+    numbered-visited : (s : State) (i : ℕ) → Sound vs ps t seed s → i < s .counts .taken → Numbered s → Numbered (search.visited f t s i .state)
+    unfolding search.visited
+    numbered-visited s i h l numbered = go (search.isBeaten s (nodeAt (s .work) i)) (isInGoal (t .polygon) (nodeAt (s .work) i))
+      where
+        o : Origin
+        o = search.originAt (s .work) i
+
+        steps : List Step
+        steps = stepsFrom f (t .polygon) (nodeAt (s .work) i)
+
+        go : (a b : Bool) → Numbered ((cond a (search.stepping s Goes) (cond b (search.stepping s (Ends (Arrived i))) (search.afterMaking f t (search.madeAll f t s o steps)))) .state)
+        go true b = numbered
+        go false true = numbered
+        go false false = numbered-after (search.madeAll f t s o steps) (sound-made-all steps s o h (origin-of s i l) (own-steps s i) .numbered numbered)
+
+    pub numbered-popped : (s : State) (i : ℕ) → Numbered s → Numbered (search.popped f t s i)
+    unfolding search.popped counted
+    numbered-popped s i numbered j l = let m = numbered j l in record { found = m .found; low = m .low }
+
+    pub numbered-step : (s : State) → Sound vs ps t seed s → Numbered s → Numbered (search.step f t s .state)
+    unfolding search.step
+    numbered-step s h numbered = go (eqb (leastIn n (s .work)) none) refl
+      where
+        go : (b : Bool) → eqb (leastIn n (s .work)) none ≡ b → Numbered ((cond b (search.stepping s (Ends Emptied)) (search.visited f t (search.popped f t s (leastIn n (s .work))) (leastIn n (s .work)))) .state)
+        go true e = numbered
+        go false e = numbered-visited (search.popped f t s (leastIn n (s .work))) (leastIn n (s .work)) (sound-popped s h e) (popped-below s h e) (numbered-popped s (leastIn n (s .work)) numbered)
+
+    -- ---- a step goes on
 
     pub sound-step : (s : State) → Sound vs ps t seed s → Steps (search.step f t s)
     unfolding search.step

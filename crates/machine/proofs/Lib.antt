@@ -2,5 +2,6 @@
 pub mod Plus
 pub mod Fitting
 pub mod Counting
+pub mod Numbers
 pub mod Kept
 pub mod Begun

@@ -24,7 +24,7 @@ use Rattle.machine.specs.declared.Finish.the-variants.{Arrived, Emptied,
 use Rattle.machine.specs.declared.Outcome.{Outcome}
 use Rattle.machine.specs.declared.Outcome.the-variants.{Goes, Ends}
 use Rattle.machine.specs.declared.Origin.{Origin}
-use Rattle.places.specs.Layout.{Work, nodeAt, depthAt, putNode, recordDistance, recordFor, putRecord, putDistance, leastIn, putQueued, emptied}
+use Rattle.places.specs.Layout.{Work, nodeAt, depthAt, numberAt, putNode, recordDistance, recordFor, putRecord, putDistance, leastIn, putQueued, emptied}
 
 -- ---- states
 
@@ -98,9 +98,11 @@ queued n s i = stateOf (putQueued n (s .work) i true) (s .counts)
 unfoldable pub kept : ℕ → State → ℕ → Node → State
 kept n s i node = cond (isBeaten s node) s (queued n (recorded s node) i)
 
--- "it takes the next place"
+-- "it takes the next place"; it keeps the number of the record that its root has, or is the next to have
 unfoldable pub placed : State → Origin → ℕ → Node → Float → State
-placed s from kind node f = stateOf (putNode (s .work) (s .counts .taken) kind node f (from .place) (from .depth + 1)) (tookPlace (s .counts))
+placed s from kind node f =
+    let number = recordFor (s .work .floats) (s .counts .records) (node .root) in
+    stateOf (putNode (s .work) (s .counts .taken) kind node f (from .place) (from .depth + 1) number) (tookPlace (s .counts))
 
 -- "Then it takes the next place, even if it is dropped after"
 unfoldable pub taken : ℕ → State → Origin → ℕ → Node → Float → State
@@ -108,7 +110,7 @@ taken n s from kind node f = kept n (placed s from kind node f) (s .counts .take
 
 -- where a node at a place is made from
 unfoldable pub originAt : Work → ℕ → Origin
-originAt w i = record { place = i; depth = depthAt w i; node = nodeAt w i }
+originAt w i = record { place = i; depth = depthAt w i; number = numberAt w i; node = nodeAt w i }
 
 module _ (f : Floor) (t : Task) where
   -- "A made node takes distance plus the leg when the root changed, and the heuristic; NaN in either makes nothing." "11: a node needs a place and none is left"
@@ -168,13 +170,13 @@ module _ (f : Floor) (t : Task) where
 
   -- "place 0 is the seed with distance 0", and the start is on record with it; nothing is queued
   unfoldable pub planted : Node → Work → Work
-  planted seed w = putRecord (putNode (emptied (t .places) w) 0 1 seed point.zero 0 0) 0 (seed .root) point.zero
+  planted seed w = putRecord (putNode (emptied (t .places) w) 0 1 seed point.zero 0 0 0) 0 (seed .root) point.zero
 
   unfoldable pub begun : Node → Work → State
   begun seed w = stateOf (planted seed w) (record { taken = 1; records = 1; pops = 0 })
 
   unfoldable pub seedOrigin : Node → Origin
-  seedOrigin seed = record { place = 0; depth = 0; node = seed }
+  seedOrigin seed = record { place = 0; depth = 0; number = 0; node = seed }
 
   -- "Else place 0 is the seed with distance 0 and all its steps are made."
   unfoldable pub searchedFrom : Point → ℕ → ℕ → Work → Ending

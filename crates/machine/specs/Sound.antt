@@ -1,5 +1,5 @@
 -- What holds of every state that a search comes through: each place below `taken` holds the seed or a node that a permitted step led to from a lower place, and
--- the queue's words are the tree of some of these places. Below the door the functions ask for it. Definitions only. Assumes nothing.
+-- the queue's words are the tree of some of these places; and each keeps the number of its root's record. Below the door the functions ask for it. Definitions only. Assumes nothing.
 use Prim.Native.Nat.{ℕ, _+_, _*_, _/_, _≤_, _<_}
 use mathlib.Core.Path.{_≡_}
 use mathlib.Core.Bool.{Bool, true, not}
@@ -7,6 +7,7 @@ use mathlib.Core.List.{List}
 use lib.Dec.{T}
 use lib.ListN.{length}
 use lib.Ieee.{Float, nan, inf, fin}
+use Rattle.helpers.specs.declared.point.Point.{Point}
 use Rattle.stored.specs.Stored.{Floor, floorOf}
 use Rattle.faults.specs.Accepted.{Accepted}
 use Rattle.floor.specs.Where.{marksOf}
@@ -17,7 +18,7 @@ use Rattle.going.specs.Going.{Stands}
 use Rattle.queue.specs.Queue.{Tree, NoNan}
 use Rattle.machine.specs.declared.Task.{Task}
 use Rattle.machine.specs.declared.Origin.{Origin}
-use Rattle.places.specs.Layout.{Work, Room, nodeAt, stepAt, parentAt, depthAt, fAt, isQueued}
+use Rattle.places.specs.Layout.{Work, Room, nodeAt, stepAt, parentAt, depthAt, numberAt, fAt, isQueued, recordFor}
 use Rattle.machine.specs.Search.{State}
 
 -- a float without a minus sign, or NaN
@@ -77,15 +78,28 @@ pub record Sound (vertices polygons : List ℕ) (t : Task) (seed : Node) (s : St
   pub entered : (i : ℕ) → 0 < i → i < s .counts .taken → Entered (floorOf (t .slots) vertices polygons) t (s .work) i
   pub queue : Queue (t .places) (s .counts .taken) (s .work)
 
+-- ---- distances on record
+
+-- the record of a root is the one with this number
+pub record OnRecord (s : State) (root : Point) (r : ℕ) : Type 0 where
+  pub found : recordFor (s .work .floats) (s .counts .records) root ≡ r
+  pub low : r < s .counts .records
+
+-- every place that is taken keeps its root's
+abbrev pub Numbered : State → Type 0
+Numbered s = (i : ℕ) → i < s .counts .taken → OnRecord s (nodeAt (s .work) i .root) (numberAt (s .work) i)
+
 -- from some seed
 pub record SoundFrom (vertices polygons : List ℕ) (t : Task) (s : State) : Type 0 where
   pub seed : Node
   pub sound : Sound vertices polygons t seed s
+  pub numbered : Numbered s
 
 -- ---- where steps are made from
 
-pub record Leaves (vertices polygons : List ℕ) (t : Task) (o : Origin) : Type 0 where
+pub record Leaves (vertices polygons : List ℕ) (t : Task) (s : State) (o : Origin) : Type 0 where
   pub stands : Stands (t .slots) vertices polygons (o .node)
+  pub on-record : OnRecord s (o .node .root) (o .number)
   pub place-few : o .place ≤ 4096
   pub depth-few : o .depth ≤ 4096
   pub points-few : o .node .points ≤ 4096

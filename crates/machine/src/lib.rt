@@ -19,10 +19,11 @@ pub struct Counts {
     pub pops: usize,
 }
 
-// Where steps are made from: a place, how many steps led to it, and its node.
+// Where steps are made from: a place, how many steps led to it, the number of its root's record, and its node.
 pub struct Origin {
     pub place: usize,
     pub depth: u32,
+    pub number: usize,
     pub node: Node,
 }
 

@@ -1,6 +1,6 @@
 -- What becomes of a node that was made: each way through the code is the definition's. Assumes nothing.
 use Prim.Native.Nat.{ℕ, _+_, _*_, _≤_, _<_}
-use mathlib.Core.Path.{_≡_, refl, _∙_}
+use mathlib.Core.Path.{_≡_, refl, sym, _∙_}
 use mathlib.Core.Bool.{true, false}
 use mathlib.Core.List.{List}
 use borrow.Author.Tests.{eq-eqb, lt-ltb, le-ltb, lt-leb, le-leb}
@@ -12,6 +12,7 @@ use Rattle.route.specs.Step.{kindNumber}
 use Rattle.steps.specs.declared.Node.{Node}
 use Rattle.steps.specs.Steps.{enter}
 use Rattle.queue.specs.Words as tree
+use Rattle.places.proofs.Records.{record-for-put}
 use Rattle.machine.specs.declared.Task.{Task}
 use Rattle.machine.specs.declared.Counts.{Counts}
 use Rattle.machine.specs.declared.Origin.{Origin}
@@ -48,12 +49,17 @@ module _ (n : ℕ) (fs : List Float) (ws qs : List ℕ) (counts : Counts) (i : �
 
 -- ---- a place is taken
 
+-- the record of a root is found where it was, after a node was put
+pub still-found : (fs : List Float) (i : ℕ) (node : Node) (f : Float) (records : ℕ) {number : ℕ} → number ≡ recordFor fs records (node .root) → {fs' : List Float} → fs' ≡ putFloats fs i node f → number ≡ recordFor fs' records (node .root)
+still-found fs i node f records e p = e ∙ rw p (sym (record-for-put fs i node f records (node .root)))
+
 module _ (n : ℕ) (fs : List Float) (ws qs : List ℕ) (counts : Counts) (from : Origin) (kind : ℕ) (node : Node) (f : Float) where
-  pub takes : {fs' : List Float} → fs' ≡ putFloats fs (counts .taken) node f → {ws' : List ℕ} → ws' ≡ putWords ws (counts .taken) kind node (from .place) (from .depth + 1)
+  pub takes : {number : ℕ} → number ≡ recordFor fs (counts .records) (node .root)
+      → {fs' : List Float} → fs' ≡ putFloats fs (counts .taken) node f → {ws' : List ℕ} → ws' ≡ putWords ws (counts .taken) kind node (from .place) (from .depth + 1) number
       → {after : State} → after ≡ kept n (stateOf (workOf fs' ws' qs) (tookPlace counts)) (counts .taken) node
       → after ≡ taken n (stateOf (workOf fs ws qs) counts) from kind node f
   unfolding taken placed
-  takes f w e = e ∙ rw (f, w)
+  takes n f w e = e ∙ rw (f, w, n)
 
 -- ---- a node is made, or none
 

@@ -15,7 +15,8 @@ use Rattle.going.proofs.Left.{begin-goes, next-goes, left-next}
 use Rattle.machine.specs.declared.Task.{Task}
 use Rattle.machine.specs.declared.Origin.{Origin}
 use Rattle.machine.specs.Search.{State, Making, making, madeIf, madeAll}
-use Rattle.machine.specs.Sound.{Fit}
+use Rattle.machine.specs.Sound.{Fit, OnRecord, Leaves}
+use Rattle.machine.proofs.Numbers.{on-made-if}
 use Rattle.machine.proofs.Fitting.{fit-made-if}
 use Rattle.making.proofs.Parts.{made-next, made-over, made-begin}
 
@@ -28,8 +29,13 @@ pub record AsLong (new old : State) : Type 0 where
 pub record Loops (vs ps : List ℕ) (t : Task) (o : Origin) (was at : State) (g : Going) : Type 0 where
   pub goes : Goes (floorOf (t .slots) vs ps) (o .node) g
   pub fit : Fit t at
+  pub numbered : OnRecord at (o .node .root) (o .number)
   pub long : AsLong at was
   pub left : madeAll (floorOf (t .slots) vs ps) t was o (stepsFrom (floorOf (t .slots) vs ps) (t .polygon) (o .node)) ≡ madeAll (floorOf (t .slots) vs ps) t at o (stepsOver (floorOf (t .slots) vs ps) (o .node) (leftIn (floorOf (t .slots) vs ps) (o .node) g))
+
+-- where steps are made from, in a later state
+pub leaves-on : {vs ps : List ℕ} {t : Task} {was at : State} {o : Origin} → Leaves vs ps t was o → OnRecord at (o .node .root) (o .number) → Leaves vs ps t at o
+leaves-on h r = record { stands = h .stands; on-record = r; place-few = h .place-few; depth-few = h .depth-few; points-few = h .points-few }
 
 abbrev pub leftLength : List ℕ → List ℕ → Task → Origin → Going → ℕ
 leftLength vs ps t o g = length (leftIn (floorOf (t .slots) vs ps) (o .node) g)
@@ -38,10 +44,11 @@ module _ (vs ps : List ℕ) (t : Task) (o : Origin) (h : Stands (t .slots) vs ps
   abbrev f : Floor
   f = floorOf (t .slots) vs ps
 
-  pub loops-begin : (was : State) → Fit t was → eqb (o .node .polygon) (t .polygon) ≡ false → {g : Going} → g ≡ beginGoing f (o .node) → Loops vs ps t o was was g
-  loops-begin was fit e {g} b = record {
+  pub loops-begin : (was : State) → Fit t was → OnRecord was (o .node .root) (o .number) → eqb (o .node .polygon) (t .polygon) ≡ false → {g : Going} → g ≡ beginGoing f (o .node) → Loops vs ps t o was was g
+  loops-begin was fit numbered e {g} b = record {
     goes = subst (Goes f (o .node)) (sym b) (begin-goes (t .slots) vs ps (o .node) h);
     fit = fit;
+    numbered = numbered;
     long = record { floats-long = refl; words-long = refl; queue-long = refl };
     left = made-begin (t .slots) vs ps (o .node) h t o (t .polygon) e was b;
   }
@@ -61,6 +68,7 @@ module _ (vs ps : List ℕ) (t : Task) (o : Origin) (h : Stands (t .slots) vs ps
       loops-next e long {next} n = record {
         goes = subst (Goes f (o .node)) (sym n) (next-goes (t .slots) vs ps (o .node) h g (l .goes) on);
         fit = subst (λ (x : Making). Fit t (x .state)) (sym made) (fit-made-if t f at o (stepOf f (o .node) (current g)) (l .fit));
+        numbered = subst (λ (x : Making). OnRecord (x .state) (o .node .root) (o .number)) (sym made) (on-made-if (o .node .root) (o .number) f t at o (stepOf f (o .node) (current g)) (l .numbered));
         long = record {
           floats-long = long .floats-long ∙ l .long .floats-long;
           words-long = long .words-long ∙ l .long .words-long;

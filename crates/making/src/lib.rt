@@ -14,10 +14,11 @@ ghost use Rattle.stored.specs.Stored.{floorOf};
 ghost use Rattle.steps.specs.Steps.{stepOf, stepsFrom};
 ghost use Rattle.view.specs.View.{viewOf};
 ghost use Rattle.going.specs.Going.{current, Goes};
-ghost use Rattle.places.specs.Layout.{workOf, Room};
+ghost use Rattle.places.specs.Layout.{workOf, recordFor};
 ghost use Rattle.machine.specs.Search.{stateOf, making, kept, taken, made, madeIf, madeAll};
-ghost use Rattle.machine.specs.Sound.{Ground, Fit, Leaves};
+ghost use Rattle.machine.specs.Sound.{Ground, Fit, OnRecord, Leaves};
 use going::Going;
+use helpers::Point;
 use machine::Counts;
 use machine::Made;
 use machine::Origin;
@@ -40,22 +41,35 @@ fn is_nan(x: f32) -> bool
     x != x
 }
 
-// Drops the node at place i if its root has a strictly smaller distance on record, else that record becomes its own and
-// the node is queued.
+// The number of the record that a root has, or is the next to have. One that is the old root by == has the old root's; only
+// another one is looked for.
+fn number_for(floats: &[f32], records: usize, old: Point, number: usize, root: Point) -> usize
+    requires { ⌜ (records * 11 ≤ length (now floats)) × (recordFor (now floats) records old ≡ number) ⌝ }
+    ensures { λ r. ⌜ r ≡ recordFor (now (floats .entry)) records root ⌝ }
+{
+    if root.same(old) {
+        return number;
+    }
+    record_for(floats, records, root)
+}
+
+// Drops the node at place i if its root, whose record's number is r, has a strictly smaller distance on record, else that
+// record becomes its own and the node is queued.
 fn keep(
     task: Task,
     counts: Counts,
     i: usize,
     node: Node,
+    r: usize,
     floats: &mut [f32],
     tree: &mut [u32],
 ) -> Counts
     requires { ⌜ (task .places * 11 ≤ length (now floats)) × (2 * task .places ≤ length (now tree)) × (task .places ≤ 4096) × (i < task .places) × (counts .records < task .places) ⌝ }
+    requires { ⌜ r ≡ recordFor (now floats) (counts .records) (node .root) ⌝ }
     ensures { λ r. ⌜ ((ws : List ℕ) → stateOf (workOf (now (floats .exit)) ws (now (tree .exit))) r ≡ kept (task .places) (stateOf (workOf (now (floats .entry)) ws (now (tree .entry))) counts) i node) ⌝ }
 {
     let records = counts.records;
     let distance = node.length;
-    let r = record_for(floats, records, node.root);
     if r < records {
         if record_distance(floats, r) < distance {
             return counts;
@@ -86,18 +100,28 @@ fn take(
     tree: &mut [u32],
 ) -> Counts
     requires { ⌜ Fit task (stateOf (workOf (now floats) (now words) (now tree)) counts) ⌝ }
-    requires { ⌜ (counts .taken < task .places) × (from .place ≤ 4096) × (from .depth ≤ 4096) ⌝ }
+    requires { ⌜ (counts .taken < task .places) × (from .place ≤ 4096) × (from .depth ≤ 4096) × OnRecord (stateOf (workOf (now floats) (now words) (now tree)) counts) (from .node .root) (from .number) ⌝ }
     ensures { λ r. ⌜ stateOf (workOf (now (floats .exit)) (now (words .exit)) (now (tree .exit))) r ≡ taken (task .places) (stateOf (workOf (now (floats .entry)) (now (words .entry)) (now (tree .entry))) counts) from kind node f ⌝ }
 {
     let i = counts.taken;
+    let old = from.node;
+    let number = number_for(floats, counts.records, old.root, from.number, node.root);
     put_floats(floats, i, node, f);
-    put_words(words, i, kind, node, from.place as u32, from.depth + 1);
+    put_words(
+        words,
+        i,
+        kind,
+        node,
+        from.place as u32,
+        from.depth + 1,
+        number as u32,
+    );
     let counts = Counts {
         taken: i + 1,
         records: counts.records,
         pops: counts.pops,
     };
-    keep(task, counts, i, node, floats, tree)
+    keep(task, counts, i, node, number, floats, tree)
 }
 
 // Makes the node that a step leads to. NaN in its distance or its heuristic makes nothing.
@@ -113,7 +137,7 @@ fn make(
     tree: &mut [u32],
 ) -> Made
     requires { ⌜ Fit task (stateOf (workOf (now floats) (now words) (now tree)) counts) ⌝ }
-    requires { ⌜ Leaves (now vertices) (now polygons) task from ⌝ }
+    requires { ⌜ Leaves (now vertices) (now polygons) task (stateOf (workOf (now floats) (now words) (now tree)) counts) from ⌝ }
     ensures { λ r. ⌜ making (stateOf (workOf (now (floats .exit)) (now (words .exit)) (now (tree .exit))) (r .counts)) (r .full) ≡ made (floorOf (task .slots) (now (vertices .entry)) (now (polygons .entry))) task (stateOf (workOf (now (floats .entry)) (now (words .entry)) (now (tree .entry))) counts) from step ⌝ }
 {
     let old = from.node;
@@ -159,7 +183,7 @@ fn make_part(
     tree: &mut [u32],
 ) -> Made
     requires { ⌜ Fit task (stateOf (workOf (now floats) (now words) (now tree)) counts) ⌝ }
-    requires { ⌜ Leaves (now vertices) (now polygons) task from ⌝ }
+    requires { ⌜ Leaves (now vertices) (now polygons) task (stateOf (workOf (now floats) (now words) (now tree)) counts) from ⌝ }
     requires { ⌜ (view ≡ viewOf (floorOf (task .slots) (now vertices) (now polygons)) (from .node)) × Goes (floorOf (task .slots) (now vertices) (now polygons)) (from .node) going × (isOverOf (going .round) ≡ false) ⌝ }
     ensures { λ r. ⌜ making (stateOf (workOf (now (floats .exit)) (now (words .exit)) (now (tree .exit))) (r .counts)) (r .full) ≡ madeIf (floorOf (task .slots) (now (vertices .entry)) (now (polygons .entry))) task (stateOf (workOf (now (floats .entry)) (now (words .entry)) (now (tree .entry))) counts) from (stepOf (floorOf (task .slots) (now (vertices .entry)) (now (polygons .entry))) (from .node) (current going)) ⌝ }
 {
@@ -197,7 +221,7 @@ pub fn make_steps(
     tree: &mut [u32],
 ) -> Made
     requires { ⌜ Fit task (stateOf (workOf (now floats) (now words) (now tree)) counts) ⌝ }
-    requires { ⌜ Leaves (now vertices) (now polygons) task from ⌝ }
+    requires { ⌜ Leaves (now vertices) (now polygons) task (stateOf (workOf (now floats) (now words) (now tree)) counts) from ⌝ }
     requires { ⌜ Ground (task .slots) (now vertices) (now polygons) (now marks) × (eqb (from .node .polygon) (task .polygon) ≡ false) ⌝ }
     ensures { λ r. ⌜ making (stateOf (workOf (now (floats .exit)) (now (words .exit)) (now (tree .exit))) (r .counts)) (r .full) ≡ madeAll (floorOf (task .slots) (now (vertices .entry)) (now (polygons .entry))) task (stateOf (workOf (now (floats .entry)) (now (words .entry)) (now (tree .entry))) counts) from (stepsFrom (floorOf (task .slots) (now (vertices .entry)) (now (polygons .entry))) (task .polygon) (from .node)) ⌝ }
 {

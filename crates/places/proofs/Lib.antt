@@ -1,2 +1,3 @@
 -- The laws of the layout.
 pub mod Rows
+pub mod Records

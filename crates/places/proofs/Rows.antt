@@ -11,15 +11,14 @@ use lib.Ieee.{Float, nan}
 use lib.ListN.{length, getD, set, length-set}
 use lib.Seq.{getD-set-same, getD-set-other}
 use Rattle.helpers.specs.declared.point.Point.{Point}
-use Rattle.counts.proofs.Laws.{first-le}
-use Rattle.helpers.specs.Point.{pointOf, sameOf}
+use Rattle.helpers.specs.Point.{pointOf}
 use Rattle.walk.specs.declared.SuccessorType.{SuccessorType}
 use Rattle.walk.specs.declared.SuccessorType.the-variants.{LeftNonObservable, Observable, RightNonObservable}
 use Rattle.route.specs.declared.Step.{Step}
 use Rattle.route.specs.Step.{kindNumber}
 use Rattle.steps.specs.declared.Node.{Node}
 use Rattle.queue.specs.Words.{column}
-use Rattle.places.specs.Layout.{Work, Room, placesIn, puts, floatAt, wordAt, intervalIn, nodeIn, kindOf, stepIn, parentIn, depthIn, putFloats, putWords, recordRoot, recordFor, recordPut, distancePut}
+use Rattle.places.specs.Layout.{Work, Room, placesIn, puts, floatAt, wordAt, intervalIn, nodeIn, kindOf, stepIn, parentIn, depthIn, numberIn, putFloats, putWords, recordPut, distancePut}
 
 -- ---- cells
 
@@ -75,7 +74,7 @@ abbrev pub SameFloats : List Float → List Float → ℕ → Type 0
 SameFloats new old i = (k : ℕ) → k < 8 → floatAt new i k ≡ floatAt old i k
 
 abbrev pub SameWords : List ℕ → List ℕ → ℕ → Type 0
-SameWords new old i = (k : ℕ) → k < 7 → wordAt new i k ≡ wordAt old i k
+SameWords new old i = (k : ℕ) → k < 8 → wordAt new i k ≡ wordAt old i k
 
 module _ (new old : List Float) (i : ℕ) (same : SameFloats new old i) where
   interval-same : intervalIn new i ≡ intervalIn old i
@@ -103,6 +102,10 @@ module _ (words was : List ℕ) (i : ℕ) (kept : SameWords words was i) where
   pub depth-same : depthIn words i ≡ depthIn was i
   unfolding depthIn
   depth-same = kept 6 (omega arith)
+
+  pub number-same : numberIn words i ≡ numberIn was i
+  unfolding numberIn
+  number-same = kept 7 (omega arith)
 
 -- ---- a node put at a place
 
@@ -137,36 +140,36 @@ module _ (floats : List Float) (i : ℕ) (node : Node) (f : Float) where
     unfolding intervalIn pointOf
     interval-put = rw (row-cell 0 (omega arith), row-cell 1 (omega arith), row-cell 2 (omega arith), row-cell 3 (omega arith))
 
-    root-put : pointOf (floatAt (putFloats floats i node f) i 4) (floatAt (putFloats floats i node f) i 5) ≡ node .root
+    pub root-put : pointOf (floatAt (putFloats floats i node f) i 4) (floatAt (putFloats floats i node f) i 5) ≡ node .root
     unfolding pointOf
     root-put = rw (row-cell 4 (omega arith), row-cell 5 (omega arith))
 
     length-put : floatAt (putFloats floats i node f) i 6 ≡ node .length
     length-put = row-cell 6 (omega arith)
 
-module _ (words : List ℕ) (i kind : ℕ) (node : Node) (parent depth : ℕ) where
+module _ (words : List ℕ) (i kind : ℕ) (node : Node) (parent depth number : ℕ) where
   abbrev after : List ℕ
-  after = putWords words i kind node parent depth
+  after = putWords words i kind node parent depth number
 
   pub put-words-length : length after ≡ length words
   unfolding putWords
-  put-words-length = puts-length words (i * 7) 0 _
+  put-words-length = puts-length words (i * 8) 0 _
 
-  pub words-elsewhere : (j k : ℕ) → k < 7 → (j ≡ i → ⊥) → wordAt after j k ≡ wordAt words j k
+  pub words-elsewhere : (j k : ℕ) → k < 8 → (j ≡ i → ⊥) → wordAt after j k ≡ wordAt words j k
   unfolding putWords wordAt
-  words-elsewhere j k h d = puts-other words (i * 7) 0 _ (j * 7 + k) 0 (go (which i j))
+  words-elsewhere j k h d = puts-other words (i * 8) 0 _ (j * 8 + k) 0 (go (which i j))
     where
-      go : (j < i) ⊎ ((j ≡ i) ⊎ (i < j)) → (j * 7 + k < i * 7 + 0) ⊎ (i * 7 + 0 + 7 ≤ j * 7 + k)
+      go : (j < i) ⊎ ((j ≡ i) ⊎ (i < j)) → (j * 8 + k < i * 8 + 0) ⊎ (i * 8 + 0 + 8 ≤ j * 8 + k)
       go (inl l) = inl (omega arith)
       go (inr (inr l)) = inr (omega arith)
       go (inr (inl e)) = absurd (d e)
 
-  module _ (room : (i + 1) * 7 ≤ length words) where
-    word-cell : (k : ℕ) → k < 7 → wordAt after i k ≡ getD (kind ∷ node .polygon ∷ node .first ∷ node .second ∷ parent ∷ node .points ∷ depth ∷ []) k 0
+  module _ (room : (i + 1) * 8 ≤ length words) where
+    word-cell : (k : ℕ) → k < 8 → wordAt after i k ≡ getD (kind ∷ node .polygon ∷ node .first ∷ node .second ∷ parent ∷ node .points ∷ depth ∷ number ∷ []) k 0
     unfolding putWords wordAt
     word-cell k h =
         let e : 0 + k ≡ k = omega arith in
-        rw e at (puts-same words (i * 7) 0 (kind ∷ node .polygon ∷ node .first ∷ node .second ∷ parent ∷ node .points ∷ depth ∷ []) k 0 (omega arith) h)
+        rw e at (puts-same words (i * 8) 0 (kind ∷ node .polygon ∷ node .first ∷ node .second ∷ parent ∷ node .points ∷ depth ∷ number ∷ []) k 0 (omega arith) h)
 
     pub parent-put : parentIn after i ≡ parent
     unfolding parentIn
@@ -175,6 +178,10 @@ module _ (words : List ℕ) (i kind : ℕ) (node : Node) (parent depth : ℕ) wh
     pub depth-put : depthIn after i ≡ depth
     unfolding depthIn
     depth-put = word-cell 6 (omega arith)
+
+    pub number-put : numberIn after i ≡ number
+    unfolding numberIn
+    number-put = word-cell 7 (omega arith)
 
     module _ (floats : List Float) (f : Float) (space : (i + 1) * 11 ≤ length floats) where
       pub node-put : eqb kind 1 ≡ node .seed → nodeIn (putFloats floats i node f) after i ≡ node
@@ -218,10 +225,6 @@ module _ (floats : List Float) (r : ℕ) (distance : Float) where
       go (inl l) e = omega arith
       go (inr (inl x)) e = omega arith
       go (inr (inr l)) e = omega arith
-
-pub record-for-le : (fs : List Float) (records : ℕ) (root : Point) → recordFor fs records root ≤ records
-unfolding recordFor
-record-for-le fs records root = first-le records (λ r. sameOf (recordRoot fs r) root)
 
 -- ---- how many places
 

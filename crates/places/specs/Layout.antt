@@ -1,4 +1,4 @@
--- Where things lie in the lent buffers: the one file that knows. A place is a row of 11 floats, a row of 7 words, and two words of the queue. Beside a node, a row
+-- Where things lie in the lent buffers: the one file that knows. A place is a row of 11 floats, a row of 8 words, and two words of the queue. Beside a node, a row
 -- of floats holds one record of a root and its distance. Definitions only. Assumes nothing.
 use Prim.Native.Nat.{ℕ, suc, _+_, _*_, _/_, _≤_, min}
 use mathlib.Core.Bool.{Bool, cond}
@@ -28,12 +28,12 @@ workOf floats words queue = record { floats = floats; words = words; queue = que
 
 -- "N is the whole nodes that the lent work buffers hold, at most 4,096"
 unfoldable pub placesIn : Work → ℕ
-placesIn w = min (min (min (length (w .floats) / 11) (length (w .words) / 7)) (length (w .queue) / 2)) 4096
+placesIn w = min (min (min (length (w .floats) / 11) (length (w .words) / 8)) (length (w .queue) / 2)) 4096
 
 -- there is a row of each list for every one of the n places
 pub record Room (n : ℕ) (w : Work) : Type 0 where
   pub floats-room : n * 11 ≤ length (w .floats)
-  pub words-room : n * 7 ≤ length (w .words)
+  pub words-room : n * 8 ≤ length (w .words)
   pub queue-room : 2 * n ≤ length (w .queue)
   pub few : n ≤ 4096
 
@@ -48,7 +48,7 @@ unfoldable pub floatAt : List Float → ℕ → ℕ → Float
 floatAt floats i k = getD floats (i * 11 + k) nan
 
 unfoldable pub wordAt : List ℕ → ℕ → ℕ → ℕ
-wordAt words i k = getD words (i * 7 + k) 0
+wordAt words i k = getD words (i * 8 + k) 0
 
 -- ---- the node at a place
 
@@ -102,6 +102,13 @@ depthIn words i = wordAt words i 6
 abbrev pub depthAt : Work → ℕ → ℕ
 depthAt w i = depthIn (w .words) i
 
+-- the number of its root's record
+unfoldable pub numberIn : List ℕ → ℕ → ℕ
+numberIn words i = wordAt words i 7
+
+abbrev pub numberAt : Work → ℕ → ℕ
+numberAt w i = numberIn (w .words) i
+
 -- its f
 abbrev pub fAt : Work → ℕ → Float
 fAt w = column (w .floats) 11 7
@@ -113,12 +120,13 @@ putFloats floats i node f =
     puts floats (i * 11) 0
     (node .interval .0 .x ∷ node .interval .0 .y ∷ node .interval .1 .x ∷ node .interval .1 .y ∷ node .root .x ∷ node .root .y ∷ node .length ∷ f ∷ [])
 
-unfoldable pub putWords : List ℕ → ℕ → ℕ → Node → ℕ → ℕ → List ℕ
-putWords words i kind node parent depth = puts words (i * 7) 0 (kind ∷ node .polygon ∷ node .first ∷ node .second ∷ parent ∷ node .points ∷ depth ∷ [])
+unfoldable pub putWords : List ℕ → ℕ → ℕ → Node → ℕ → ℕ → ℕ → List ℕ
+putWords words i kind node parent depth number =
+    puts words (i * 8) 0 (kind ∷ node .polygon ∷ node .first ∷ node .second ∷ parent ∷ node .points ∷ depth ∷ number ∷ [])
 
--- its kind, the node, its f, the place from which it was entered and how many steps led to it
-abbrev pub putNode : Work → ℕ → ℕ → Node → Float → ℕ → ℕ → Work
-putNode w i kind node f parent depth = workOf (putFloats (w .floats) i node f) (putWords (w .words) i kind node parent depth) (w .queue)
+-- its kind, the node, its f, the place from which it was entered, how many steps led to it, and the number of its root's record
+abbrev pub putNode : Work → ℕ → ℕ → Node → Float → ℕ → ℕ → ℕ → Work
+putNode w i kind node f parent depth number = workOf (putFloats (w .floats) i node f) (putWords (w .words) i kind node parent depth number) (w .queue)
 
 -- ---- distances on record
 

@@ -1,10 +1,10 @@
-// Where things lie in the lent buffers. A place is a row of 11 floats and a row of 7 words; beside a node, a row of floats
+// Where things lie in the lent buffers. A place is a row of 11 floats and a row of 8 words; beside a node, a row of floats
 // holds one record of a root and its distance. Only these functions know the numbers of the cells.
 
 ghost use mathlib.Core.Path.{_≡_};
 ghost use Prim.Native.Nat.{_+_, _*_, _≤_, _<_, min};
 ghost use lib.ListN.{length};
-ghost use Rattle.places.specs.Layout.{workOf, placesIn, intervalIn, nodeIn, kindOf, stepIn, parentIn, depthIn, putFloats, putWords, recordRoot, recordDistance, recordFor, recordPut, distancePut};
+ghost use Rattle.places.specs.Layout.{workOf, placesIn, intervalIn, nodeIn, kindOf, stepIn, parentIn, depthIn, numberIn, putFloats, putWords, recordRoot, recordDistance, recordFor, recordPut, distancePut};
 use helpers::Point;
 use helpers::Segment;
 use route::Step;
@@ -14,7 +14,7 @@ use walk::SuccessorType;
 // Floats and words in a row.
 pub const FLOATS: usize = 11;
 
-pub const WORDS: usize = 7;
+pub const WORDS: usize = 8;
 
 // The cell of a row of floats in which f stands.
 pub const F_AT: usize = 7;
@@ -62,10 +62,19 @@ pub fn put_floats(floats: &mut [f32], i: usize, node: Node, f: f32)
     floats[row + 7] = f;
 }
 
-// Stores the words of the node at place i: how it was entered, from which place, and after how many steps.
-pub fn put_words(words: &mut [u32], i: usize, kind: u32, node: Node, parent: u32, depth: u32)
-    requires { ⌜ (i + 1) * 7 ≤ length (now words) ⌝ }
-    ensures { λ _. ⌜ now (words .exit) ≡ putWords (now (words .entry)) i kind node parent depth ⌝ }
+// Stores the words of the node at place i: how it was entered, from which place, after how many steps, and which record its
+// root has.
+pub fn put_words(
+    words: &mut [u32],
+    i: usize,
+    kind: u32,
+    node: Node,
+    parent: u32,
+    depth: u32,
+    number: u32,
+)
+    requires { ⌜ (i + 1) * 8 ≤ length (now words) ⌝ }
+    ensures { λ _. ⌜ now (words .exit) ≡ putWords (now (words .entry)) i kind node parent depth number ⌝ }
 {
     let row = i * WORDS;
     words[row + 0] = kind;
@@ -75,6 +84,7 @@ pub fn put_words(words: &mut [u32], i: usize, kind: u32, node: Node, parent: u32
     words[row + 4] = parent;
     words[row + 5] = node.points;
     words[row + 6] = depth;
+    words[row + 7] = number;
 }
 
 // The interval of the node at place i.
@@ -90,7 +100,7 @@ fn interval_at(floats: &[f32], i: usize) -> Segment
 
 // The node at place i.
 pub fn node_at(floats: &[f32], words: &[u32], i: usize) -> Node
-    requires { ⌜ ((i + 1) * 11 ≤ length (now floats)) × ((i + 1) * 7 ≤ length (now words)) ⌝ }
+    requires { ⌜ ((i + 1) * 11 ≤ length (now floats)) × ((i + 1) * 8 ≤ length (now words)) ⌝ }
     ensures { λ r. ⌜ r ≡ nodeIn (now (floats .entry)) (now (words .entry)) i ⌝ }
 {
     let interval = interval_at(floats, i);
@@ -125,7 +135,7 @@ fn kind_of(number: u32) -> SuccessorType
 
 // The step by which the node at place i was entered.
 pub fn step_at(floats: &[f32], words: &[u32], i: usize) -> Step
-    requires { ⌜ ((i + 1) * 11 ≤ length (now floats)) × ((i + 1) * 7 ≤ length (now words)) ⌝ }
+    requires { ⌜ ((i + 1) * 11 ≤ length (now floats)) × ((i + 1) * 8 ≤ length (now words)) ⌝ }
     ensures { λ r. ⌜ r ≡ stepIn (now (floats .entry)) (now (words .entry)) i ⌝ }
 {
     let interval = interval_at(floats, i);
@@ -142,7 +152,7 @@ pub fn step_at(floats: &[f32], words: &[u32], i: usize) -> Step
 
 // The place from which the node at place i was entered.
 pub fn parent_at(words: &[u32], i: usize) -> u32
-    requires { ⌜ (i + 1) * 7 ≤ length (now words) ⌝ }
+    requires { ⌜ (i + 1) * 8 ≤ length (now words) ⌝ }
     ensures { λ r. ⌜ r ≡ parentIn (now (words .entry)) i ⌝ }
 {
     words[i * WORDS + 4]
@@ -150,10 +160,18 @@ pub fn parent_at(words: &[u32], i: usize) -> u32
 
 // How many steps led to the node at place i.
 pub fn depth_at(words: &[u32], i: usize) -> u32
-    requires { ⌜ (i + 1) * 7 ≤ length (now words) ⌝ }
+    requires { ⌜ (i + 1) * 8 ≤ length (now words) ⌝ }
     ensures { λ r. ⌜ r ≡ depthIn (now (words .entry)) i ⌝ }
 {
     words[i * WORDS + 6]
+}
+
+// The number of the record of its root.
+pub fn number_at(words: &[u32], i: usize) -> u32
+    requires { ⌜ (i + 1) * 8 ≤ length (now words) ⌝ }
+    ensures { λ r. ⌜ r ≡ numberIn (now (words .entry)) i ⌝ }
+{
+    words[i * WORDS + 7]
 }
 
 // The root of record r.

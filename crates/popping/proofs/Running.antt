@@ -8,6 +8,7 @@ use borrow.Author.Tests.{eq-eqb, ne-eqb}
 use lib.Dec.{eqb}
 use lib.ListN.{length}
 use Rattle.helpers.specs.declared.point.Point.{Point}
+use Rattle.helpers.specs.Point.{sameOf}
 use Rattle.stored.specs.Stored.{Floor, floorOf}
 use Rattle.steps.specs.declared.Node.{Node}
 use Rattle.steps.specs.Steps.{stepsFrom, seedNode}
@@ -21,9 +22,9 @@ use Rattle.machine.specs.declared.Outcome.{Outcome}
 use Rattle.machine.specs.declared.Outcome.the-variants.{Goes, Ends}
 use Rattle.places.specs.Layout.{Work, Room, leastIn}
 use Rattle.machine.specs.Search.{State, stateOf, Making, Stepping, Ending, ending, madeAll, step, onwards, run, planted, begun, seedOrigin, searchedFrom}
-use Rattle.machine.specs.Sound.{Ground, Fit, Sound, SoundFrom, Leaves}
-use Rattle.machine.proofs.Kept.{sound-step}
-use Rattle.machine.proofs.Begun.{sound-begun, sound-seeded}
+use Rattle.machine.specs.Sound.{Ground, Fit, Sound, OnRecord, Numbered, SoundFrom, Leaves}
+use Rattle.machine.proofs.Kept.{sound-step, numbered-step}
+use Rattle.machine.proofs.Begun.{sound-begun, on-first, sound-seeded, numbered-seeded}
 use Rattle.making.proofs.Looping.{AsLong}
 use Rattle.machine.proofs.Counting.{pops-made-all, pops-step}
 
@@ -52,7 +53,11 @@ module _ (vs ps marks : List ℕ) (t : Task) (budget : ℕ) (was at : State) (le
 
     pub runs-next : st .outcome ≡ Goes → AsLong (st .state) at → Runs vs ps t budget was (st .state) (left - 1)
     runs-next e long = record {
-      sound = record { seed = r .sound .seed; sound = subst (λ (x : Stepping). Sound vs ps t (r .sound .seed) (x .state)) (sym stepped) (sound-step vs ps t (r .sound .seed) (g .some-slots) (g .few-slots) (g .accepted) at (r .sound .sound) .sound) };
+      sound = record {
+        seed = r .sound .seed;
+        sound = subst (λ (x : Stepping). Sound vs ps t (r .sound .seed) (x .state)) (sym stepped) (sound-step vs ps t (r .sound .seed) (g .some-slots) (g .few-slots) (g .accepted) at (r .sound .sound) .sound);
+        numbered = subst (λ (x : Stepping). Numbered (x .state)) (sym stepped) (numbered-step vs ps t (r .sound .seed) (g .some-slots) (g .few-slots) (g .accepted) at (r .sound .sound) (r .sound .numbered));
+      };
       long = record {
         floats-long = long .floats-long ∙ r .long .floats-long;
         words-long = long .words-long ∙ r .long .words-long;
@@ -80,9 +85,9 @@ abbrev pub firstOf : Work → State
 firstOf w = stateOf w (record { taken = 1; records = 1; pops = 0 })
 
 abbrev pub leavesSeed : Node → Origin
-leavesSeed seed = record { place = 0; depth = 0; node = seed }
+leavesSeed seed = record { place = 0; depth = 0; number = 0; node = seed }
 
-module _ (vs ps marks : List ℕ) (t : Task) (start : Point) (p : ℕ) (was : Work) (g : Ground (t .slots) vs ps marks) (room : Room (t .places) was) (places : 1 ≤ t .places) (listed : p < length ps / (t .slots * 8)) (apart : eqb p (t .polygon) ≡ false)
+module _ (vs ps marks : List ℕ) (t : Task) (start : Point) (p : ℕ) (was : Work) (g : Ground (t .slots) vs ps marks) (room : Room (t .places) was) (places : 1 ≤ t .places) (listed : p < length ps / (t .slots * 8)) (apart : eqb p (t .polygon) ≡ false) (self : sameOf start start ≡ true)
     {seed : Node} (seeded : seed ≡ seedNode start p) {w : Work} (grown : w ≡ planted (floorOf (t .slots) vs ps) t seed was) where
   abbrev ground : Floor
   ground = floorOf (t .slots) vs ps
@@ -97,10 +102,14 @@ module _ (vs ps marks : List ℕ) (t : Task) (start : Point) (p : ℕ) (was : Wo
   pub first-fit : Fit t (firstOf w)
   first-fit = first-sound .fit
 
-  pub first-leaves : Leaves vs ps t (leavesSeed seed)
+  first-on-record : OnRecord (firstOf w) (seedNode start p .root) 0
+  first-on-record = subst (λ (x : State). OnRecord x (seedNode start p .root) 0) (sym first-is) (on-first vs ps t (g .some-slots) (g .few-slots) (g .accepted) (g .some-vertices) start p listed was room places self)
+
+  pub first-leaves : Leaves vs ps t (firstOf w) (leavesSeed seed)
   unfolding seedNode
   first-leaves = rw seeded (record {
     stands = seed-stands (t .slots) vs ps (g .some-slots) (g .few-slots) (g .accepted) (g .some-vertices) start p listed;
+    on-record = first-on-record;
     place-few = omega arith;
     depth-few = omega arith;
     points-few = omega arith;
@@ -119,6 +128,7 @@ module _ (vs ps marks : List ℕ) (t : Task) (start : Point) (p : ℕ) (was : Wo
     made-sound = record {
       seed = seedNode start p;
       sound = subst (λ (x : Making). Sound vs ps t (seedNode start p) (x .state)) (sym made-is) (sound-seeded vs ps t (g .some-slots) (g .few-slots) (g .accepted) (g .some-vertices) start p listed was room places);
+      numbered = subst (λ (x : Making). Numbered (x .state)) (sym made-is) (numbered-seeded vs ps t (g .some-slots) (g .few-slots) (g .accepted) (g .some-vertices) start p listed was room places self);
     }
 
     pub made-uncounted : m .state .counts .pops ≡ 0

@@ -1,12 +1,13 @@
 -- A step and a run: each way through the code is the definition's, and what it asks for is there. Assumes nothing.
-use Prim.Native.Nat.{ℕ, _-_, _≤_, _<_}
+use Prim.Native.Nat.{ℕ, _+_, _*_, _≤_, _<_}
 use native.Mathlib.Omega.{arith}
-use mathlib.Core.Path.{_≡_, sym, _∙_, subst}
+use mathlib.Core.Path.{_≡_, sym, ap, _∙_, subst}
 use mathlib.Core.Bool.{Bool, true, false}
 use mathlib.Core.List.{List}
-use borrow.Author.Tests.{eq-eqb, ne-eqb}
+use borrow.Author.Tests.{eq-eqb, ne-eqb, lt-ltb}
 use lib.Dec.{eqb}
-use lib.Ieee.{Float}
+use lib.Ieee.{Float, lt}
+use lib.ListN.{length}
 use Rattle.stored.specs.Stored.{Floor}
 use Rattle.steps.specs.declared.Node.{Node}
 use Rattle.steps.specs.Steps.{stepsFrom}
@@ -17,12 +18,25 @@ use Rattle.machine.specs.declared.Task.{Task}
 use Rattle.machine.specs.declared.Counts.{Counts}
 use Rattle.machine.specs.declared.Finish.the-variants.{Arrived, Emptied, Filled}
 use Rattle.machine.specs.declared.Outcome.the-variants.{Goes, Ends}
-use Rattle.places.specs.Layout.{workOf, nodeAt, depthAt, fAt, isQueued, leastIn}
+use Rattle.places.specs.Layout.{workOf, nodeAt, depthAt, numberAt, recordFor, recordDistance, fAt, isQueued, leastIn}
 use Rattle.machine.specs.Search.{State, stateOf, Making, Stepping, stepping, counted, beatenIn, originAt, madeAll, visited, popped, step}
-use Rattle.machine.specs.Sound.{Ground, SoundFrom, Leaves}
-use Rattle.machine.proofs.Kept.{popped-queued, popped-taken, sound-popped}
+use Rattle.machine.specs.Sound.{Ground, OnRecord, Numbered, SoundFrom, Leaves}
+use Rattle.machine.proofs.Kept.{popped-queued, popped-taken, sound-popped, numbered-popped}
 
 -- ---- a node that was popped
+
+-- its root's distance is that of the record whose number was kept
+pub beats : (s : State) (i : ℕ) → Numbered s → i < s .counts .taken → {node : Node} → node ≡ nodeAt (s .work) i → {number : ℕ} → number ≡ numberAt (s .work) i
+    → {distance : Float} → distance ≡ recordDistance (s .work .floats) number → lt distance (node .length) ≡ beatenIn (s .work .floats) (s .counts .records) node
+unfolding beatenIn
+beats s i h l {node} read {number} kept {distance} told =
+    let m = h i l in
+    let found : recordFor (s .work .floats) (s .counts .records) (node .root) ≡ number = ap (λ (x : Node). recordFor (s .work .floats) (s .counts .records) (x .root)) read ∙ m .found ∙ sym kept in
+    rw (told, found, lt-ltb number (s .counts .records) (omega (arith, kept, m .low)))
+
+-- that record has its row
+pub beats-room : (vs ps : List ℕ) (t : Task) (s : State) (i : ℕ) → SoundFrom vs ps t s → i < s .counts .taken → {number : ℕ} → number ≡ numberAt (s .work) i → (number + 1) * 11 ≤ length (s .work .floats)
+beats-room vs ps t s i h l kept = omega (arith, kept, h .numbered i l .low, h .sound .fit .records-in, h .sound .taken-in, h .sound .fit .room .floats-room)
 
 module _ (f : Floor) (t : Task) (s : State) (i : ℕ) {node : Node} (read : node ≡ nodeAt (s .work) i) {b : Bool} (beaten : b ≡ beatenIn (s .work .floats) (s .counts .records) node) where
   pub visits-beaten : b ≡ true → stepping s Goes ≡ visited f t s i
@@ -33,25 +47,31 @@ module _ (f : Floor) (t : Task) (s : State) (i : ℕ) {node : Node} (read : node
   unfolding visited isInGoal
   visits-goal e g = rw (← read, ← beaten, e, eq-eqb _ _ g)
 
-  module _ (e : b ≡ false) (g : node .polygon ≡ t .polygon → ⊥) {depth : ℕ} (deep : depth ≡ depthAt (s .work) i) (m : Making)
-      (made : m ≡ madeAll f t s (record { place = i; depth = depth; node = node }) (stepsFrom f (t .polygon) node)) where
+  module _ (e : b ≡ false) (g : node .polygon ≡ t .polygon → ⊥) {depth : ℕ} (deep : depth ≡ depthAt (s .work) i) {number : ℕ} (numbered : number ≡ numberAt (s .work) i) (m : Making)
+      (made : m ≡ madeAll f t s (record { place = i; depth = depth; number = number; node = node }) (stepsFrom f (t .polygon) node)) where
     pub visits-full : m .full ≡ true → stepping (m .state) (Ends Filled) ≡ visited f t s i
     unfolding visited isInGoal originAt
-    visits-full full = rw (← read, ← beaten, e, ne-eqb _ _ g, ← deep, ← made, full)
+    visits-full full = rw (← read, ← beaten, e, ne-eqb _ _ g, ← deep, ← numbered, ← made, full)
 
     pub visits-on : m .full ≡ false → stepping (m .state) Goes ≡ visited f t s i
     unfolding visited isInGoal originAt
-    visits-on full = rw (← read, ← beaten, e, ne-eqb _ _ g, ← deep, ← made, full)
+    visits-on full = rw (← read, ← beaten, e, ne-eqb _ _ g, ← deep, ← numbered, ← made, full)
 
 -- what its steps are made from
-pub leaves-of : (vs ps : List ℕ) (t : Task) (s : State) (i : ℕ) → SoundFrom vs ps t s → i < s .counts .taken → {node : Node} → node ≡ nodeAt (s .work) i → {depth : ℕ} → depth ≡ depthAt (s .work) i
-    → Leaves vs ps t (record { place = i; depth = depth; node = node })
-leaves-of vs ps t s i h l {node} n {depth} d =
+pub leaves-of : (vs ps : List ℕ) (t : Task) (s : State) (i : ℕ) → SoundFrom vs ps t s → i < s .counts .taken → {node : Node} → node ≡ nodeAt (s .work) i → {depth : ℕ} → depth ≡ depthAt (s .work) i → {number : ℕ} → number ≡ numberAt (s .work) i
+    → Leaves vs ps t s (record { place = i; depth = depth; number = number; node = node })
+leaves-of vs ps t s i h l {node} n {depth} d {number} k =
     let held = h .sound .held i l in
     let most = h .sound .fit .room .few in
     let inside = h .sound .taken-in in
-    subst (λ (m : Node). Leaves vs ps t (record { place = i; depth = depth; node = m })) (sym n)
-    (record { stands = held .stands; place-few = omega (arith, l, inside, most); depth-few = omega (arith, d, held .depth-few, l, inside, most); points-few = omega (arith, held .points-few, held .depth-few, l, inside, most) })
+    subst (λ (m : Node). Leaves vs ps t s (record { place = i; depth = depth; number = number; node = m })) (sym n)
+    (record {
+      stands = held .stands;
+      on-record = subst (λ (r : ℕ). OnRecord s (nodeAt (s .work) i .root) r) (sym k) (h .numbered i l);
+      place-few = omega (arith, l, inside, most);
+      depth-few = omega (arith, d, held .depth-few, l, inside, most);
+      points-few = omega (arith, held .points-few, held .depth-few, l, inside, most);
+    })
 
 -- ---- a step
 
@@ -88,4 +108,5 @@ module _ (vs ps marks : List ℕ) (t : Task) (fs : List Float) (ws qs : List ℕ
   popped-sound q = record {
     seed = h .seed;
     sound = rw (q, least) (sound-popped vs ps t (h .seed) (g .some-slots) (g .few-slots) (g .accepted) (stateOf (workOf fs ws qs) counts) (h .sound) queue-full);
+    numbered = rw q (numbered-popped vs ps t (h .seed) (g .some-slots) (g .few-slots) (g .accepted) (stateOf (workOf fs ws qs) counts) w (h .numbered));
   }

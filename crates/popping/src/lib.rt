@@ -3,13 +3,14 @@
 use making::make_steps;
 use places::F_AT;
 ghost use mathlib.Core.Path.{_≡_};
-ghost use mathlib.Core.Bool.{false};
+ghost use mathlib.Core.Bool.{true, false};
 ghost use Prim.Native.Nat.{ℕ, _+_, _*_, _/_, _≤_, _<_, _^_};
 ghost use lib.Dec.{eqb};
 ghost use lib.ListN.{length};
+ghost use Rattle.helpers.specs.Point.{sameOf};
 ghost use Rattle.stored.specs.Stored.{Floor, floorOf};
 ghost use Rattle.places.specs.Layout.{workOf, Room};
-ghost use Rattle.machine.specs.Search.{stateOf, stepping, ending, beatenIn, visited, step, run, planted, searchedFrom};
+ghost use Rattle.machine.specs.Search.{stateOf, stepping, ending, visited, step, run, planted, searchedFrom};
 ghost use Rattle.machine.specs.Sound.{Ground, SoundFrom};
 use helpers::Point;
 use machine::Counts;
@@ -23,27 +24,16 @@ use places::FLOATS;
 use places::SEED;
 use places::depth_at;
 use places::node_at;
+use places::number_at;
 use places::put_floats;
 use places::put_record;
 use places::put_words;
 use places::record_distance;
-use places::record_for;
 use queue::NONE;
 use steps::Node;
 
-// Whether the root of a node has a strictly smaller distance on record than the node's.
-fn is_beaten(floats: &[f32], records: usize, node: Node) -> bool
-    requires { ⌜ records * 11 ≤ length (now floats) ⌝ }
-    ensures { λ r. ⌜ r ≡ beatenIn (now (floats .entry)) records node ⌝ }
-{
-    let r = record_for(floats, records, node.root);
-    if r < records {
-        return record_distance(floats, r) < node.length;
-    }
-    false
-}
-
-// Looks at the node that was popped: it is dropped, or it has arrived, or its steps are made.
+// Looks at the node that was popped: it is dropped, or it has arrived, or its steps are made. The number of its root's record
+// was kept with it.
 fn visit(
     vertices: &[u8],
     polygons: &[u8],
@@ -61,7 +51,8 @@ fn visit(
     ensures { λ r. ⌜ stepping (stateOf (workOf (now (floats .exit)) (now (words .exit)) (now (tree .exit))) (r .counts)) (r .outcome) ≡ visited (floorOf (task .slots) (now (vertices .entry)) (now (polygons .entry))) task (stateOf (workOf (now (floats .entry)) (now (words .entry)) (now (tree .entry))) counts) i ⌝ }
 {
     let node = node_at(floats, words, i);
-    if is_beaten(floats, counts.records, node) {
+    let number = number_at(words, i) as usize;
+    if record_distance(floats, number) < node.length {
         return Stepped {
             counts,
             outcome: Outcome::Goes,
@@ -76,6 +67,7 @@ fn visit(
     let from = Origin {
         place: i,
         depth: depth_at(words, i),
+        number,
         node,
     };
     let made = make_steps(
@@ -192,7 +184,7 @@ fn plant(task: Task, seed: Node, floats: &mut [f32], words: &mut [u32], tree: &m
 {
     queue::clear(tree, task.places);
     put_floats(floats, 0, seed, 0.0);
-    put_words(words, 0, SEED, seed, 0, 0);
+    put_words(words, 0, SEED, seed, 0, 0, 0);
     put_record(floats, 0, seed.root, 0.0);
 }
 
@@ -211,7 +203,7 @@ pub fn search_from(
 ) -> Ended
     requires { ⌜ Ground (task .slots) (now vertices) (now polygons) (now marks) ⌝ }
     requires { ⌜ Room (task .places) (workOf (now floats) (now words) (now tree)) × (1 ≤ task .places) ⌝ }
-    requires { ⌜ (p < length (now polygons) / (task .slots * 8)) × (eqb p (task .polygon) ≡ false) ⌝ }
+    requires { ⌜ (p < length (now polygons) / (task .slots * 8)) × (eqb p (task .polygon) ≡ false) × (sameOf start start ≡ true) ⌝ }
     ensures { λ r. ⌜ ending (stateOf (workOf (now (floats .exit)) (now (words .exit)) (now (tree .exit))) (r .counts)) (r .finish) ≡ searchedFrom (floorOf (task .slots) (now (vertices .entry)) (now (polygons .entry))) task start p budget (workOf (now (floats .entry)) (now (words .entry)) (now (tree .entry))) ⌝ }
 {
     let seed = Node::seed(start, p as u32);
@@ -224,6 +216,7 @@ pub fn search_from(
     let from = Origin {
         place: 0,
         depth: 0,
+        number: 0,
         node: seed,
     };
     let made = make_steps(

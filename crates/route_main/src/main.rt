@@ -18,7 +18,7 @@ fn main() {
     find(&mut vertices, &mut polygons, &mut question, &mut out);
 }
 
-// Room for 2,047 nodes: 11 floats, 7 words and 2 words of the queue each. Only the length is said, which lending an array as a
+// Room for 2,047 nodes: 11 floats, 8 words and 2 words of the queue each. Only the length is said, which lending an array as a
 // slice needs.
 fn room_for_floats() -> [f32; 22517]
     ensures { λ r. ⌜ 22517 ≡ length r ⌝ }
@@ -26,10 +26,10 @@ fn room_for_floats() -> [f32; 22517]
     [0.0; 22517]
 }
 
-fn room_for_words() -> [u32; 14329]
-    ensures { λ r. ⌜ 14329 ≡ length r ⌝ }
+fn room_for_words() -> [u32; 16376]
+    ensures { λ r. ⌜ 16376 ≡ length r ⌝ }
 {
-    [0; 14329]
+    [0; 16376]
 }
 
 fn room_for_queue() -> [u32; 4094]

@@ -178,10 +178,10 @@ fn room_for_floats() -> [f32; 45056]
     [0.0; 45056]
 }
 
-fn room_for_words() -> [u32; 28672]
-    ensures { λ r. ⌜ 28672 ≡ length r ⌝ }
+fn room_for_words() -> [u32; 32768]
+    ensures { λ r. ⌜ 32768 ≡ length r ⌝ }
 {
-    [0; 28672]
+    [0; 32768]
 }
 
 fn room_for_queue() -> [u32; 8192]
@@ -208,7 +208,7 @@ fn search_with(
         question,
         lent.budget,
         &mut floats[..n * 11],
-        &mut words[..n * 7],
+        &mut words[..n * 8],
         &mut queue[..n * 2],
         out,
     )

@@ -2,12 +2,16 @@
 use Prim.Native.Nat.{ℕ, _*_, _/_, _≤_, _<_}
 use native.Mathlib.Omega.{arith}
 use mathlib.Core.Path.{_≡_, refl, sym, _∙_, subst}
-use mathlib.Core.Bool.{Bool, true, false, not, cond}
+use mathlib.Core.Bool.{Bool, true, false, not, cond, _&&_}
 use mathlib.Core.List.{List}
 use borrow.Author.Tests.{eq-eqb, ne-eqb, leb-false}
-use lib.Dec.{leb}
+use lib.Dec.{T, leb, eqb}
+use lib.Ieee.{Float, isNan, le, neg}
 use lib.ListN.{length}
+use Rattle.float.proofs.Tests.{and-true}
+use Rattle.float.proofs.Nan.{le-no-nan}
 use Rattle.helpers.specs.declared.point.Point.{Point}
+use Rattle.helpers.specs.Point.{limit, sameOf}
 use Rattle.floor.specs.declared.Refusal.{Refusal}
 use Rattle.floor.specs.declared.Refusal.the-variants as refusal
 use Rattle.floor.specs.declared.FloorLook.{FloorLook}
@@ -15,13 +19,14 @@ use Rattle.floor.specs.declared.FloorLook.the-variants.{Accepted as Sound, Faul
 use Rattle.floor.specs.declared.Look.{Look}
 use Rattle.floor.specs.declared.Look.the-variants.{Inside, Refused}
 use Rattle.stored.specs.Stored.{Floor, Question, floorOf, questionOf}
-use Rattle.faults.specs.Tests.{questionRight}
+use Rattle.faults.specs.Tests.{coordinateRight, pointRight, questionRight}
 use Rattle.floor.specs.Where.{polygonOf, marksOf}
 use Rattle.floor.specs.Look.{floorLookOf, askOf, lookOf}
 use Rattle.stored.proofs.Records.{polygon-count}
 use Rattle.floor.proofs.Looked.{question-length}
 use Rattle.floor.proofs.Exact.{floor-exactly}
 use Rattle.steps.specs.Steps.{seedNode}
+use Rattle.places.proofs.Records.{same-itself}
 use Rattle.machine.specs.declared.Task.{Task}
 use Rattle.writing.specs.declared.Answer.{Answer}
 use Rattle.writing.specs.declared.Answer.the-variants.{NoPlaces}
@@ -70,6 +75,19 @@ module _ (slots : ℕ) (f : Floor) (q : Question) (p goal budget : ℕ) (w : Wor
 
 -- ---- the question
 
+in-range : (x : Float) → coordinateRight x ≡ true → T (not (isNan x))
+unfolding coordinateRight
+in-range x e = le-no-nan x limit (and-true (le (neg limit) x) (le x limit) e .1) .0
+
+-- a start that was accepted has no NaN
+pub start-self : (question : List ℕ) → questionRight question ≡ true → {start : Point} → start ≡ questionOf question .start → sameOf start start ≡ true
+unfolding questionRight pointRight
+start-self question e {start} s =
+    let q = questionOf question in
+    let points = and-true (eqb (length question) 16) (pointRight (q .start) && pointRight (q .goal)) e .1 in
+    let x = and-true (coordinateRight (q .start .x)) (coordinateRight (q .start .y)) (and-true (pointRight (q .start)) (pointRight (q .goal)) points .0) in
+    subst (λ (p : Point). sameOf p p ≡ true) (sym s) (same-itself (q .start) (in-range (q .start .x) (x .0)) (in-range (q .start .y) (x .1)))
+
 inside-not : {A : Type 0} (r : Refusal) (p q : ℕ) → Refused r ≡ Inside p q → A
 inside-not r p q e = let z : _≡_ {A = ℕ} 0 1 = cc in absurd (omega arith)
 
@@ -77,7 +95,7 @@ inside-first : (a b p q : ℕ) → Inside a b ≡ Inside p q → a ≡ p
 inside-first a b p q e = cc
 
 -- where start and goal are inside, the question is long enough and the start's polygon is listed
-pub asked-inside : (f : Floor) (question : List ℕ) (p q : ℕ) → askOf f question ≡ Inside p q → (length question ≡ 16) × (p < length (f .polygons))
+pub asked-inside : (f : Floor) (question : List ℕ) (p q : ℕ) → askOf f question ≡ Inside p q → (length question ≡ 16) × (p < length (f .polygons)) × (questionRight question ≡ true)
 unfolding askOf
 asked-inside f question p q e = go (questionRight question) refl (leb n a) refl (leb n b) e
   where
@@ -91,17 +109,17 @@ asked-inside f question p q e = go (questionRight question) refl (leb n a) refl 
     b = polygonOf f (questionOf question .goal)
 
     go : (x : Bool) → questionRight question ≡ x → (y : Bool) → leb n a ≡ y → (z : Bool)
-        → cond (not x) (Refused refusal.Question) (cond y (Refused refusal.StartOutside) (cond z (Refused refusal.GoalOutside) (Inside a b))) ≡ Inside p q → (length question ≡ 16) × (p < n)
+        → cond (not x) (Refused refusal.Question) (cond y (Refused refusal.StartOutside) (cond z (Refused refusal.GoalOutside) (Inside a b))) ≡ Inside p q → (length question ≡ 16) × (p < n) × (questionRight question ≡ true)
     go false r y m z e = inside-not refusal.Question p q e
     go true r true m z e = inside-not refusal.StartOutside p q e
     go true r false m true e = inside-not refusal.GoalOutside p q e
-    go true r false m false e = (question-length question r, rw (← inside-first a b p q e) (leb-false n a m))
+    go true r false m false e = (question-length question r, rw (← inside-first a b p q e) (leb-false n a m), r)
 
 module _ (slots : ℕ) (vs ps question : List ℕ) (budget : ℕ) (w : Work) (out : List ℕ) {look : Look} (asked : look ≡ askOf (floorOf slots vs ps) question) where
-  pub start-listed : {p goal : ℕ} → look ≡ Inside p goal → (length question ≡ 16) × (p < length ps / (slots * 8))
+  pub start-listed : {p goal : ℕ} → look ≡ Inside p goal → (length question ≡ 16) × (p < length ps / (slots * 8)) × (questionRight question ≡ true)
   start-listed {p} {goal} e =
       let h = asked-inside (floorOf slots vs ps) question p goal (sym asked ∙ e) in
-      (h .0, subst (λ (n : ℕ). p < n) (polygon-count slots vs ps) (h .1))
+      (h .0, subst (λ (n : ℕ). p < n) (polygon-count slots vs ps) (h .1), h .2)
 
   pub asks-inside : {p goal : ℕ} → look ≡ Inside p goal → {x : Searched} → x ≡ betweenOf slots (floorOf slots vs ps) (questionOf question) p goal budget w out → x ≡ askedOf slots vs ps question budget w out
   unfolding askedOf

@@ -1,9 +1,12 @@
 // The search from end to end: the tests, the search, and the route that is written.
 
 ghost use mathlib.Core.Path.{_≡_};
+ghost use mathlib.Core.Bool.{true};
 ghost use Prim.Native.Nat.{_*_, _/_, _≤_, _<_};
 ghost use lib.ListN.{length};
+ghost use Rattle.helpers.specs.Point.{sameOf};
 ghost use Rattle.stored.specs.Stored.{floorOf, questionOf};
+ghost use Rattle.faults.specs.Tests.{questionRight};
 ghost use Rattle.places.specs.Layout.{workOf, Room};
 ghost use Rattle.machine.specs.Sound.{Ground};
 ghost use Rattle.search.specs.Whole.{searchedOf, routed, betweenOf, askedOf, searchOf};
@@ -34,7 +37,7 @@ fn route_from(
     out: &mut [u8],
 ) -> Answer
     requires { ⌜ Ground (task .slots) (now vertices) (now polygons) (now marks) ⌝ }
-    requires { ⌜ Room (task .places) (workOf (now floats) (now words) (now tree)) × (1 ≤ task .places) × (p < length (now polygons) / (task .slots * 8)) ⌝ }
+    requires { ⌜ Room (task .places) (workOf (now floats) (now words) (now tree)) × (1 ≤ task .places) × (p < length (now polygons) / (task .slots * 8)) × (sameOf start start ≡ true) ⌝ }
     ensures { λ r. ⌜ searchedOf r (workOf (now (floats .exit)) (now (words .exit)) (now (tree .exit))) (now (out .exit)) ≡ routed (floorOf (task .slots) (now (vertices .entry)) (now (polygons .entry))) task start p budget (workOf (now (floats .entry)) (now (words .entry)) (now (tree .entry))) (now (out .entry)) ⌝ }
 {
     if p == task.polygon {
@@ -70,7 +73,7 @@ fn route_between(
     out: &mut [u8],
 ) -> Answer
     requires { ⌜ Ground 8 (now vertices) (now polygons) (now marks) ⌝ }
-    requires { ⌜ (length (now question) ≡ 16) × (p < length (now polygons) / 64) ⌝ }
+    requires { ⌜ (length (now question) ≡ 16) × (p < length (now polygons) / 64) × (questionRight (now question) ≡ true) ⌝ }
     ensures { λ r. ⌜ searchedOf r (workOf (now (floats .exit)) (now (words .exit)) (now (tree .exit))) (now (out .exit)) ≡ betweenOf 8 (floorOf 8 (now (vertices .entry)) (now (polygons .entry))) (questionOf (now (question .entry))) p q budget (workOf (now (floats .entry)) (now (words .entry)) (now (tree .entry))) (now (out .entry)) ⌝ }
 {
     let places = places::places_in(floats, words, tree);

@@ -19,7 +19,7 @@ putChain floats words (suc depth) i out = putChain floats words depth (parentIn 
 -- place i has its rows
 pub record Row (floats : List Float) (words : List ℕ) (i : ℕ) : Type 0 where
   pub in-floats : (i + 1) * 11 ≤ length floats
-  pub in-words : (i + 1) * 7 ≤ length words
+  pub in-words : (i + 1) * 8 ≤ length words
 
 -- so has every place of the chain that ends there
 abbrev pub Lies : List Float → List ℕ → ℕ → ℕ → Type 0

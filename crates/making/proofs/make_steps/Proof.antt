@@ -4,7 +4,7 @@ use mathlib.Core.Path.{sym, _∙_}
 use borrow.Author.Tests.{not-true, not-false}
 use Rattle.places.specs.Layout.{workOf}
 use Rattle.machine.specs.Search.{stateOf}
-use Rattle.making.proofs.Looping.{Loops, leftLength, loops-begin, loops-over, loops-full, loops-next, loops-less}
+use Rattle.making.proofs.Looping.{Loops, leaves-on, leftLength, loops-begin, loops-over, loops-full, loops-next, loops-less}
 use Rattle.making.proofs.make_steps.Statement.{statement}
 use Rattle.making.proofs.make_steps.Tie as tie
 
@@ -29,7 +29,7 @@ begin-requires c κs =
 loop-holds : tie.Need-loop-holds Inv-loop μ-loop
 loop-holds c =
     let s = c .before .before .before .before .before .before .before .before in
-    loops-begin (now (s .args .vertices)) (now (s .args .polygons)) (s .args .task) (s .args .from) (s .pre .1 .0 .stands) (stateOf (workOf (now (s .args .floats)) (now (s .args .words)) (now (s .args .tree))) (s .args .counts)) (s .pre .0) (s .pre .1 .1 .1) (c .begin .ensures)
+    loops-begin (now (s .args .vertices)) (now (s .args .polygons)) (s .args .task) (s .args .from) (s .pre .1 .0 .stands) (stateOf (workOf (now (s .args .floats)) (now (s .args .words)) (now (s .args .tree))) (s .args .counts)) (s .pre .0) (s .pre .1 .0 .on-record) (s .pre .1 .1 .1) (c .begin .ensures)
 
 is-over-requires : tie.Need-is-over-requires Inv-loop μ-loop
 is-over-requires c κs = c .loop .inv .goes .taken-in
@@ -37,7 +37,7 @@ is-over-requires c κs = c .loop .inv .goes .taken-in
 make-part-requires : tie.Need-make-part-requires Inv-loop μ-loop
 make-part-requires c κs =
     let s = c .before .before .before .before .before .before .before .before .before .before .before .before .before .before in
-    (c .before .before .before .before .before .loop .inv .fit, (s .pre .1 .0, (c .before .before .before .before .before .before .before .new .ensures, c .before .before .before .before .before .loop .inv .goes, sym (c .before .before .before .before .is-over .ensures) ∙ not-true (c .before .before .before .before .is-over .result) (c .before .before .before .if1 .taken))))
+    (c .before .before .before .before .before .loop .inv .fit, (leaves-on (s .pre .1 .0) (c .before .before .before .before .before .loop .inv .numbered), (c .before .before .before .before .before .before .before .new .ensures, c .before .before .before .before .before .loop .inv .goes, sym (c .before .before .before .before .is-over .ensures) ∙ not-true (c .before .before .before .before .is-over .result) (c .before .before .before .if1 .taken))))
 
 same-length : tie.Need-same-length Inv-loop μ-loop
 same-length c = c .before .before .before .before .before .before .before .make-part .kept .1 .1 .1 .1 .1 .1 .1 .0 ∙ c .before .before .before .before .before .before .before .before .before .before .before .before .before .loop .inv .long .floats-long

@@ -73,8 +73,17 @@ mul-words-7 c = search needs
 slice-write-words-7 : tie.Need-slice-write-words-7
 slice-write-words-7 c = simp length-set (omega arith)
 
+add-words-8 : tie.Need-add-words-8
+add-words-8 c = search needs
+
+mul-words-8 : tie.Need-mul-words-8
+mul-words-8 c = search needs
+
+slice-write-words-8 : tie.Need-slice-write-words-8
+slice-write-words-8 c = simp length-set (omega arith)
+
 same-length : tie.Need-same-length
-same-length c = search needs
+same-length c = simp length-set
 
 returns : tie.Need-returns
 unfolding putWords puts
@@ -83,4 +92,4 @@ returns c = refl
 pub put-words-spec : {M : Type 1} → statement M
 put-words-spec =
     tie.close
-    (tie.spec mul-row add-words mul-words slice-write-words add-words-2 mul-words-2 slice-write-words-2 add-words-3 mul-words-3 slice-write-words-3 add-words-4 mul-words-4 slice-write-words-4 add-words-5 mul-words-5 slice-write-words-5 add-words-6 mul-words-6 slice-write-words-6 add-words-7 mul-words-7 slice-write-words-7 same-length returns)
+    (tie.spec mul-row add-words mul-words slice-write-words add-words-2 mul-words-2 slice-write-words-2 add-words-3 mul-words-3 slice-write-words-3 add-words-4 mul-words-4 slice-write-words-4 add-words-5 mul-words-5 slice-write-words-5 add-words-6 mul-words-6 slice-write-words-6 add-words-7 mul-words-7 slice-write-words-7 add-words-8 mul-words-8 slice-write-words-8 same-length returns)

@@ -5,7 +5,7 @@ use native.Mathlib.Omega.{arith}
 use Rattle.stored.specs.Stored.{floorOf, questionOf}
 use Rattle.places.specs.Layout.{workOf}
 use Rattle.places.proofs.Rows.{places-room}
-use Rattle.search.proofs.Doors.{between-none, between-on}
+use Rattle.search.proofs.Doors.{start-self, between-none, between-on}
 use Rattle.search.proofs.route_between.Statement.{statement}
 use Rattle.search.proofs.route_between.Tie as tie
 
@@ -35,7 +35,7 @@ question-goal-requires c κs = search needs
 route-from-requires : tie.Need-route-from-requires
 route-from-requires c κs =
     let s = c .before .before .before .before .before .before .before .before .before .before .before .before .before .before .before .before .before .before in
-    (s .pre .0, (places-room (workOf (now (s .args .floats)) (now (s .args .words)) (now (s .args .tree))) (c .before .before .before .before .before .before .before .places-in .ensures), omega (arith, c .before .before .before .before .before .before .if1 .left), s .pre .1 .1))
+    (s .pre .0, (places-room (workOf (now (s .args .floats)) (now (s .args .words)) (now (s .args .tree))) (c .before .before .before .before .before .before .before .places-in .ensures), omega (arith, c .before .before .before .before .before .before .if1 .left), s .pre .1 .1, start-self (now (s .args .question)) (s .pre .1 .2) (c .before .before .before .before .before .question-start .ensures)))
 
 same-length-4 : tie.Need-same-length-4
 same-length-4 c = search needs

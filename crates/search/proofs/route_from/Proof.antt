@@ -23,7 +23,7 @@ returns c =
 search-from-requires : tie.Need-search-from-requires
 search-from-requires c κs =
     let s = c .before .before .before .before .before .before .before .before .before .before .before in
-    (s .pre .0, ((s .pre .1 .0, s .pre .1 .1), (s .pre .1 .2, ne-eqb _ _ (c .before .before .before .if1 .left))))
+    (s .pre .0, ((s .pre .1 .0, s .pre .1 .1), (s .pre .1 .2, ne-eqb _ _ (c .before .before .before .if1 .left), s .pre .1 .3)))
 
 tell-requires : tie.Need-tell-requires
 tell-requires c κs =

@@ -5,7 +5,7 @@ use harness::floor::Floor;
 
 /// What a node takes of each lent work buffer, and the most nodes that are used.
 pub const FLOATS: usize = 11;
-pub const WORDS: usize = 7;
+pub const WORDS: usize = 8;
 pub const TREE: usize = 2;
 pub const PLACES: usize = 4096;
 /// The longest route: a seed, a step to each other place, and the end.
