@@ -1,5 +1,7 @@
 pub mod Routes
+pub mod Told
 pub mod Budget
 pub mod Refusals
 pub mod Room
 pub mod Points
+pub mod Coincide

@@ -1,26 +1,37 @@
--- A refusal changes nothing in the output, and up to 10 the work buffers stay too. From the search's definition alone. Assumes nothing.
-use Prim.Native.Nat.{ℕ}
-use mathlib.Core.Path.{_≡_, refl}
+-- "Other than 0, nothing in the output changes": neither the search's output nor the read-out's points. "Up to 10 the work buffers stay too." First of the definitions,
+-- then of the contracts themselves (`Post` is what a contract permits, of the arguments, the answer and the arguments at exit). Assumes nothing.
+use Prim.Native.Nat.{ℕ, _*_}
+use mathlib.Core.Path.{_≡_, refl, ap, _∙_}
 use mathlib.Core.Bool.{Bool, true, false, cond}
-use mathlib.Core.List.{List, _++_}
+use mathlib.Core.List.{List}
+use borrow.Author.Tests.{ltb-true, ltb-false}
 use lib.Dec.{eqb, ltb}
-use lib.ListN.{length, drop}
+use lib.Ieee.{Float}
+use lib.ListN.{length}
+use lib.Seq.{sets}
+use Rattle.helpers.specs.declared.point.Point.{Point}
 use Rattle.floor.specs.declared.Refusal.{Refusal}
-use Rattle.floor.specs.declared.Look.{Look}
 use Rattle.floor.specs.declared.Look.the-variants.{Inside, Refused}
 use Rattle.floor.specs.Look.{lookOf}
-use Rattle.stored.specs.Stored.{Floor, Question, floorOf, questionOf}
-use Rattle.machine.specs.declared.Task.{Task}
-use Rattle.machine.specs.declared.Finish.{Finish}
-use Rattle.machine.specs.declared.Finish.the-variants.{Arrived, Emptied, Filled, Stopped}
+use Rattle.route.specs.declared.Judged.the-variants.{Accepted, Length, NotSeed, NotStep, NotEnd}
+use Rattle.judge.specs.declared.Verdict.{Verdict}
+use Rattle.judge.specs.declared.Verdict.the-variants.{Read}
+use Rattle.judge.specs.declared.Verdict.the-variants.{Refused as Unjudged}
+use Rattle.readout.specs.declared.Readout.{Readout}
+use Rattle.readout.specs.declared.Readout.the-variants.{Short, Listed}
+use Rattle.judge.specs.Verdict.{verdictOf}
+use Rattle.readout.specs.Readout.{floatsOf, listed, listing, answerIf, outIf, routePoints, readoutOf, writtenOf, readoutNumber}
+use Rattle.readout.proofs.read_out.Reads as read-out
+use Rattle.cart_c.proofs.cart_read_out.Reads as cart-read-out
 use Rattle.writing.specs.declared.Answer.{Answer}
-use Rattle.writing.specs.declared.Answer.the-variants.{Found, NoPlaces, Short}
+use Rattle.writing.specs.declared.Answer.the-variants.{NoPlaces}
 use Rattle.writing.specs.declared.Answer.the-variants.{Refused as Turned}
 use Rattle.places.specs.Layout.{Work, placesIn}
-use Rattle.machine.specs.Search.{Ending, searchedFrom}
 use Rattle.writing.specs.Answers.{answerNumber}
-use Rattle.writing.specs.Told.{Told, toldOf, written, routeBytes, straightBytes, finished, told}
-use Rattle.search.specs.Whole.{Searched, searchedOf, ifInside, withWork, routed, betweenOf, searchOf}
+use Rattle.search.specs.Whole.{Searched, searchedOf, routed, betweenOf, searchOf}
+use Rattle.search.proofs.search.Reads as search
+use Rattle.search.proofs.search_default.Reads as search-default
+use Rattle.promises.proofs.Told.{Tells, without, with-route, Route, search-tells, route-fits, route-lacks}
 
 -- ---- the output
 
@@ -28,58 +39,24 @@ use Rattle.search.specs.Whole.{Searched, searchedOf, ifInside, withWork, routed
 abbrev NotZero : Answer → Type 0
 NotZero a = answerNumber a ≡ 0 → ⊥
 
-written-leaves : (bytes : List ℕ) (steps : ℕ) (out : List ℕ) → NotZero (written bytes steps out .answer) → written bytes steps out .out ≡ out
-unfolding written answerNumber
-written-leaves bytes steps out = go (ltb (length out) (length bytes))
-  where
-    go : (b : Bool) → NotZero (cond {A = Told} b (toldOf (Short steps) out) (toldOf (Found steps (length bytes)) (bytes ++ drop (length bytes) out)) .answer)
-        → cond {A = Told} b (toldOf (Short steps) out) (toldOf (Found steps (length bytes)) (bytes ++ drop (length bytes) out)) .out ≡ out
-    go true h = refl
-    go false h = absurd (h refl)
-
-module _ (s : ℕ) (f : Floor) (q : Question) (from to budget : ℕ) (w : Work) (out : List ℕ) where
-  abbrev task : Task
-  task = record { slots = s; goal = q .goal; polygon = to; places = placesIn w }
-
-  abbrev end : Ending
-  end = searchedFrom f task (q .start) from budget w
-
-  told-leaves : NotZero (told (q .start) from (q .goal) end out .answer) → told (q .start) from (q .goal) end out .out ≡ out
-  unfolding told
-  told-leaves = go (end .finish)
-    where
-      go : (finish : Finish) → NotZero (finished (end .state .work) (q .start) from (q .goal) finish (end .state .counts .pops) out .answer)
-          → finished (end .state .work) (q .start) from (q .goal) finish (end .state .counts .pops) out .out ≡ out
-      go (Arrived i) h = written-leaves (routeBytes (end .state .work) (q .start) from (q .goal) i) (end .state .counts .pops) out h
-      go Emptied h = refl
-      go Filled h = refl
-      go Stopped h = refl
-
-  between-leaves : NotZero (betweenOf s f q from to budget w out .answer) → betweenOf s f q from to budget w out .out ≡ out
-  unfolding betweenOf routed
-  between-leaves = go (eqb (placesIn w) 0) (eqb from to)
-    where
-      straight : Told
-      straight = written (straightBytes (q .start) from (q .goal)) 0 out
-
-      around : Told
-      around = told (q .start) from (q .goal) end out
-
-      go : (a b : Bool) → NotZero (cond {A = Searched} a (searchedOf NoPlaces w out) (cond {A = Searched} b (withWork w straight) (withWork (end .state .work) around)) .answer)
-          → cond {A = Searched} a (searchedOf NoPlaces w out) (cond {A = Searched} b (withWork w straight) (withWork (end .state .work) around)) .out ≡ out
-      go true b h = refl
-      go false true h = written-leaves (straightBytes (q .start) from (q .goal)) 0 out h
-      go false false h = told-leaves h
-
 -- "Other than 0, nothing in the output changes."
 pub refusal-leaves-output : (s : ℕ) (vs ps question : List ℕ) (budget : ℕ) (w : Work) (out : List ℕ) → NotZero (searchOf s vs ps question budget w out .answer) → searchOf s vs ps question budget w out .out ≡ out
-unfolding searchOf
-refusal-leaves-output s vs ps question budget w out = go (lookOf s vs ps question)
+unfolding answerNumber
+refusal-leaves-output s vs ps question budget w out = go (search-tells s vs ps question budget w)
   where
-    go : (look : Look) → NotZero (ifInside look w out (λ p goal. betweenOf s (floorOf s vs ps) (questionOf question) p goal budget w out) .answer)
-        → ifInside look w out (λ p goal. betweenOf s (floorOf s vs ps) (questionOf question) p goal budget w out) .out ≡ out
-    go (Inside from to) h = between-leaves s (floorOf s vs ps) (questionOf question) from to budget w out h
-    go (Refused r) h = refl
+    asked : List ℕ → Searched
+    asked = searchOf s vs ps question budget w
+
+    go : Tells asked → NotZero (asked out .answer) → asked out .out ≡ out
+    go (without answer work none h) z = ap (λ (x : Searched). x .out) (h out)
+    go (with-route bytes steps work h) z = by (ltb (length out) (length bytes)) refl
+      where
+        route : Route steps (length bytes) asked
+        route = record { bytes = bytes; long = refl; work = work; writes = h }
+
+        by : (b : Bool) → ltb (length out) (length bytes) ≡ b → asked out .out ≡ out
+        by true l = ap (λ (x : Searched). x .out) (route-lacks asked out steps (length bytes) route (ltb-true (length out) (length bytes) l))
+        by false l = absurd (z (ap (λ (x : Searched). answerNumber (x .answer)) (route-fits asked out steps (length bytes) route (ltb-false (length out) (length bytes) l))))
 
 -- ---- the work buffers
 
@@ -98,3 +75,61 @@ pub one-polygon-leaves-buffers : (s : ℕ) (vs ps question : List ℕ) (budget :
     → searchOf s vs ps question budget w out .work ≡ w
 unfolding searchOf betweenOf routed
 one-polygon-leaves-buffers s vs ps question budget w out from to e z same = rw (e, z, same)
+
+-- ---- the points of a read-out
+
+-- a read-out that is not 0
+abbrev NotRead : Readout → Type 0
+NotRead answer = readoutNumber answer ≡ 0 → ⊥
+
+listing-leaves : (points : List Point) (out : List Float) → NotRead (listed points out) → listing points out ≡ out
+unfolding listed listing readoutNumber
+listing-leaves points out = go (ltb (length out) (length points * 2))
+  where
+    go : (b : Bool) → NotRead (cond {A = Readout} b Short (Listed (length points))) → cond {A = List Float} b out (sets out 0 (floatsOf points)) ≡ out
+    go true h = refl
+    go false h = absurd (h refl)
+
+-- 13 and every refusal leave the points as they were.
+pub read-out-leaves-points : (s : ℕ) (vs ps question route : List ℕ) (out : List Float) → NotRead (readoutOf s vs ps question route out) → writtenOf s vs ps question route out ≡ out
+unfolding readoutOf writtenOf
+read-out-leaves-points s vs ps question route out = go (verdictOf s vs ps question route)
+  where
+    points : List Point
+    points = routePoints s vs ps question route out
+
+    go : (v : Verdict) → NotRead (answerIf v points out) → outIf v points out ≡ out
+    go (Read Accepted) h = listing-leaves points out h
+    go (Read Length) h = refl
+    go (Read NotSeed) h = refl
+    go (Read (NotStep i)) h = refl
+    go (Read (NotEnd i)) h = refl
+    go (Unjudged refusal) h = refl
+
+-- ---- the contracts
+
+-- Whatever a contract permits with another number than 0 leaves this as it was.
+abbrev pub Leaves : {L A Z E S : Type 0} → (L → A → Z → E → Type 0) → (Z → ℕ) → (A → S) → (E → S) → Type 0
+Leaves {L} {A} {Z} {E} permits number before after = (κs : L) (a : A) (z : Z) (e : E) → permits κs a z e → (number z ≡ 0 → ⊥) → after e ≡ before a
+
+pub search-leaves : Leaves search.Post answerNumber (λ a. a .1 .1 .1 .1 .1 .1 .1 .0 .now) (λ e. e .1 .1 .1 .1 .1 .1 .1 .0 .now)
+search-leaves κs a z e p h =
+    ap (λ (s : Searched). s .out) p
+    ∙ refusal-leaves-output 8 (a .0 .now) (a .1 .0 .now) (a .1 .1 .0 .now) (a .1 .1 .1 .0) _ (a .1 .1 .1 .1 .1 .1 .1 .0 .now)
+    (λ k. h (ap (λ (s : Searched). answerNumber (s .answer)) p ∙ k))
+
+pub search-default-leaves : Leaves search-default.Post answerNumber (λ a. a .1 .1 .1 .1 .1 .1 .0 .now) (λ e. e .1 .1 .1 .1 .1 .1 .0 .now)
+search-default-leaves κs a z e p h =
+    ap (λ (s : Searched). s .out) p
+    ∙ refusal-leaves-output 8 (a .0 .now) (a .1 .0 .now) (a .1 .1 .0 .now) 4096 _ (a .1 .1 .1 .1 .1 .1 .0 .now)
+    (λ k. h (ap (λ (s : Searched). answerNumber (s .answer)) p ∙ k))
+
+pub read-out-leaves : Leaves read-out.Post readoutNumber (λ a. a .1 .1 .1 .1 .0 .now) (λ e. e .1 .1 .1 .1 .0 .now)
+read-out-leaves κs a z e p h =
+    p .1
+    ∙ read-out-leaves-points 8 (a .0 .now) (a .1 .0 .now) (a .1 .1 .0 .now) (a .1 .1 .1 .0 .now) (a .1 .1 .1 .1 .0 .now) (λ k. h (ap readoutNumber (p .0) ∙ k))
+
+pub cart-read-out-leaves : Leaves cart-read-out.Post (λ z. z) (λ a. a .1 .1 .1 .1 .0 .now) (λ e. e .1 .1 .1 .1 .0 .now)
+cart-read-out-leaves κs a z e p h =
+    p .1 .0
+    ∙ read-out-leaves-points 8 (a .0 .now) (a .1 .0 .now) (a .1 .1 .0 .now) (a .1 .1 .1 .0 .now) (a .1 .1 .1 .1 .0 .now) (λ k. h (p .0 ∙ k))

@@ -4,10 +4,9 @@ use native.Mathlib.Omega.{arith}
 use mathlib.Core.Path.{_≡_, refl, sym, ap, _∙_}
 use mathlib.Core.Bool.{Bool, true, false, cond}
 use mathlib.Core.List.{List, _++_}
-use borrow.Author.Tests.{eqb-false, ltb-true, ltb-false, le-ltb}
+use borrow.Author.Tests.{eqb-false, ltb-true}
 use lib.Dec.{eqb, ltb}
 use lib.ListN.{length, take, drop}
-use lib.Seq.{take-append-seam}
 use Rattle.word.specs.Word.{Bytes}
 use Rattle.floor.specs.declared.Look.{Look}
 use Rattle.floor.specs.declared.Look.the-variants.{Inside, Refused}
@@ -28,6 +27,7 @@ use Rattle.search.specs.Whole.{Searched, searchedOf, ifInside, withWork, routed
 use Rattle.machine.proofs.Kept.{Arrives, Finishes}
 use Rattle.machine.proofs.Begun.{sound-searched}
 use Rattle.search.proofs.Found.{route-long, straight-long}
+use Rattle.promises.proofs.Told.{search-tells, found-tells, route-fits, route-front}
 
 -- ---- what is written
 
@@ -114,65 +114,17 @@ pub record SameRoute (n : ℕ) (a b : Searched) : Type 0 where
   pub work-same : b .work ≡ a .work
   pub bytes-same : take n (b .out) ≡ take n (a .out)
 
-written-wider : (bytes : List ℕ) (counted : ℕ) (out wider : List ℕ) → length out ≤ length wider → (steps n : ℕ) → written bytes counted out .answer ≡ Found steps n
-    → (written bytes counted wider .answer ≡ written bytes counted out .answer) × (take n (written bytes counted wider .out) ≡ take n (written bytes counted out .out))
-unfolding written
-written-wider bytes counted out wider l steps n = go (ltb (length out) (length bytes)) refl
-  where
-    go : (b : Bool) → ltb (length out) (length bytes) ≡ b → cond {A = Told} b (toldOf (Short counted) out) (toldOf (Found counted (length bytes)) (bytes ++ drop (length bytes) out)) .answer ≡ Found steps n
-        → (cond {A = Told} (ltb (length wider) (length bytes)) (toldOf (Short counted) wider) (toldOf (Found counted (length bytes)) (bytes ++ drop (length bytes) wider)) .answer
-        ≡ cond {A = Told} b (toldOf (Short counted) out) (toldOf (Found counted (length bytes)) (bytes ++ drop (length bytes) out)) .answer)
-        × (take n (cond {A = Told} (ltb (length wider) (length bytes)) (toldOf (Short counted) wider) (toldOf (Found counted (length bytes)) (bytes ++ drop (length bytes) wider)) .out)
-        ≡ take n (cond {A = Told} b (toldOf (Short counted) out) (toldOf (Found counted (length bytes)) (bytes ++ drop (length bytes) out)) .out))
-    go true h e = let z : _≡_ {A = ℕ} 0 1 = cc in absurd (omega arith)
-    go false h e =
-        let k : length bytes ≡ n = cc in
-        let enough = le-ltb (length wider) (length bytes) (omega (arith, ltb-false (length out) (length bytes) h)) in
-        let front : (l : List ℕ) → take n (bytes ++ l) ≡ bytes = λ l. ap (λ (m : ℕ). take m (bytes ++ l)) (sym k) ∙ take-append-seam bytes l in
-        rw enough (refl, front (drop (length bytes) wider) ∙ sym (front (drop (length bytes) out)))
-
-module _ (s : ℕ) (f : Floor) (q : Question) (from to : ℕ) (budget : ℕ) (w : Work) (out wider : List ℕ) (l : length out ≤ length wider) (steps n : ℕ) where
-  abbrev asked : Task
-  asked = record { slots = s; goal = q .goal; polygon = to; places = placesIn w }
-
-  abbrev ended : Ending
-  ended = searchedFrom f asked (q .start) from budget w
-
-  same-route : (work : Work) (bytes : List ℕ) (counted : ℕ) → written bytes counted out .answer ≡ Found steps n → SameRoute n (withWork work (written bytes counted out)) (withWork work (written bytes counted wider))
-  same-route work bytes counted e =
-      let h = written-wider bytes counted out wider l steps n e in
-      record { answer-same = h .0; work-same = refl; bytes-same = h .1 }
-
-  finished-wider : (finish : Finish) (counted : ℕ) → finished (ended .state .work) (q .start) from (q .goal) finish counted out .answer ≡ Found steps n
-      → SameRoute n (withWork (ended .state .work) (finished (ended .state .work) (q .start) from (q .goal) finish counted out)) (withWork (ended .state .work) (finished (ended .state .work) (q .start) from (q .goal) finish counted wider))
-  finished-wider (Arrived i) counted e = same-route (ended .state .work) (routeBytes (ended .state .work) (q .start) from (q .goal) i) counted e
-  finished-wider Emptied counted e = let z : _≡_ {A = ℕ} 0 1 = cc in absurd (omega arith)
-  finished-wider Filled counted e = let z : _≡_ {A = ℕ} 0 1 = cc in absurd (omega arith)
-  finished-wider Stopped counted e = let z : _≡_ {A = ℕ} 0 1 = cc in absurd (omega arith)
-
-  between-wider : betweenOf s f q from to budget w out .answer ≡ Found steps n → SameRoute n (betweenOf s f q from to budget w out) (betweenOf s f q from to budget w wider)
-  unfolding betweenOf routed told
-  between-wider = go (eqb (placesIn w) 0) (eqb from to)
-    where
-      straight : List ℕ → Searched
-      straight o = withWork w (written (straightBytes (q .start) from (q .goal)) 0 o)
-
-      around : List ℕ → Searched
-      around o = withWork (ended .state .work) (finished (ended .state .work) (q .start) from (q .goal) (ended .finish) (ended .state .counts .pops) o)
-
-      go : (a b : Bool) → cond {A = Searched} a (searchedOf NoPlaces w out) (cond {A = Searched} b (straight out) (around out)) .answer ≡ Found steps n
-          → SameRoute n (cond {A = Searched} a (searchedOf NoPlaces w out) (cond {A = Searched} b (straight out) (around out))) (cond {A = Searched} a (searchedOf NoPlaces w wider) (cond {A = Searched} b (straight wider) (around wider)))
-      go true b e = let z : _≡_ {A = ℕ} 0 1 = cc in absurd (omega arith)
-      go false true e = same-route w (straightBytes (q .start) from (q .goal)) 0 e
-      go false false e = finished-wider (ended .finish) (ended .state .counts .pops) e
-
 -- Where a search answers 0, every larger output gets the answer 0 too, with the same counted steps, the same buffers and the same bytes.
 pub larger-output-same : (s : ℕ) (vs ps question : List ℕ) (budget : ℕ) (w : Work) (out wider : List ℕ) → length out ≤ length wider → (steps n : ℕ) → searchOf s vs ps question budget w out .answer ≡ Found steps n
     → SameRoute n (searchOf s vs ps question budget w out) (searchOf s vs ps question budget w wider)
-unfolding searchOf
-larger-output-same s vs ps question budget w out wider l steps n = go (lookOf s vs ps question)
-  where
-    go : (look : Look) → ifInside look w out (λ p goal. betweenOf s (floorOf s vs ps) (questionOf question) p goal budget w out) .answer ≡ Found steps n
-        → SameRoute n (ifInside look w out (λ p goal. betweenOf s (floorOf s vs ps) (questionOf question) p goal budget w out)) (ifInside look w wider (λ p goal. betweenOf s (floorOf s vs ps) (questionOf question) p goal budget w wider))
-    go (Inside from to) e = between-wider s (floorOf s vs ps) (questionOf question) from to budget w out wider l steps n e
-    go (Refused r) e = let z : _≡_ {A = ℕ} 0 1 = cc in absurd (omega arith)
+larger-output-same s vs ps question budget w out wider l steps n e =
+    let search = searchOf s vs ps question budget w in
+    let told = found-tells search out (search-tells s vs ps question budget w) steps n e in
+    let more : n ≤ length wider = omega (arith, told .1, l) in
+    let here = route-fits search out steps n (told .0) (told .1) in
+    let there = route-fits search wider steps n (told .0) more in
+    record {
+      answer-same = ap (λ (x : Searched). x .answer) there ∙ sym (ap (λ (x : Searched). x .answer) here);
+      work-same = ap (λ (x : Searched). x .work) there ∙ sym (ap (λ (x : Searched). x .work) here);
+      bytes-same = route-front search wider steps n (told .0) more ∙ sym (route-front search out steps n (told .0) (told .1));
+    }
