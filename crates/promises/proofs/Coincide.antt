@@ -8,6 +8,7 @@ use lib.Ieee.{Float}
 use Rattle.readout.specs.declared.Readout.{Readout}
 use Rattle.writing.specs.declared.Answer.{Answer}
 use Rattle.search.specs.Whole.{Searched}
+use Rattle.cart_c.specs.Handed.{Handed}
 use Rattle.search.proofs.search.Reads as search
 use Rattle.search.proofs.search_default.Reads as search-default
 use Rattle.places.proofs.places_in.Reads as places-in
@@ -25,6 +26,7 @@ use Rattle.says.proofs.verdict_at.Reads as verdict-at
 use Rattle.cart_c.proofs.cart_judge.Reads as cart-judge
 use Rattle.cart_c.proofs.cart_read_out.Reads as cart-read-out
 use Rattle.cart_c.proofs.cart_words.Reads as cart-words
+use Rattle.cart_c.proofs.cart_search.Reads as cart-search
 use Rattle.floor_c.proofs.floor_look.Reads as floor-look
 use Rattle.floor_c.proofs.floor_turn.Reads as floor-turn
 use Rattle.steps_c.proofs.steps_step.Reads as steps-step
@@ -132,6 +134,16 @@ cart-read-out-coincides κs a z y e f p q = triple (p .0 ∙ sym (q .0)) (p .1 .
 
 pub cart-words-coincides : Coincide {S = ℕ × List ℕ} cart-words.Post (λ z e. (z, e .1 .0 .now))
 cart-words-coincides κs a z y e f p q = pair (p .0 ∙ sym (q .0)) (p .1 ∙ sym (q .1))
+
+-- the number, the three work buffers, the output, the counted steps and the value
+abbrev pub SeenInC : Type 0
+SeenInC = ℕ × List Float × List ℕ × List ℕ × List ℕ × ℕ × ℕ
+
+abbrev seenInC : Handed → SeenInC
+seenInC h = (h .number, h .work .floats, h .work .words, h .work .queue, h .out, h .steps, h .value)
+
+pub cart-search-coincides : Coincide {S = SeenInC} cart-search.Post (λ z e. (z, e .1 .1 .1 .1 .0 .now, e .1 .1 .1 .1 .1 .0 .now, e .1 .1 .1 .1 .1 .1 .0 .now, e .1 .1 .1 .1 .1 .1 .1 .0 .now, e .1 .1 .1 .1 .1 .1 .1 .1 .0 .now, e .1 .1 .1 .1 .1 .1 .1 .1 .1 .0 .now))
+cart-search-coincides κs a z y e f p q = ap seenInC (p ∙ sym q)
 
 -- ---- for C: the floor and the steps
 
