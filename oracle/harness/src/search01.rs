@@ -38,7 +38,8 @@ pub struct Route {
 }
 
 impl Route {
-    /// The route file, from a start in a polygon to a goal.
+    /// The route file, from a start in a polygon to a goal: "Seed: 1, polygon, start x, y, 16 zero bytes. Step: kind .. End: 5,
+    /// number of points, goal x, y, length, 12 zero bytes."
     pub fn bytes(&self, start: Vec2, polygon: u32, goal: Vec2) -> Vec<u8> {
         let [from_x, from_y, to_x, to_y, length] = [start.x, start.y, goal.x, goal.y, self.length].map(f32::to_bits);
         let mut records = vec![[1, polygon, from_x, from_y, 0, 0, 0, 0]];

@@ -103,6 +103,12 @@ impl Counts {
         }
     }
 
+    /// How many questions end as the Rust's do, to the bit of the length, and of how many.
+    pub fn agreed(&self) -> (usize, usize) {
+        let agreed = self.outcomes.iter().filter(|(outcome, _)| outcome.agrees());
+        (agreed.map(|(_, count)| count).sum(), self.outcomes.values().sum())
+    }
+
     /// Answers on how many questions the list was not whole.
     pub fn print(&self) -> usize {
         println!("  beside the unchanged Rust, where both points are on the floor and nothing is short:");

@@ -1,5 +1,5 @@
-//! Compares our static library with the original: `compare THREADS HARDWARE_ROOTS [EMULATOR]`, with the path of the
-//! program hardware_roots (or the word no) and, where this one is emulated, what emulates it.
+//! Compares our static library with the original: `compare THREADS HARDWARE_ROOTS [EMULATOR]`, with the path of the program
+//! hardware_roots (or the word no, or time for the time of a root alone) and, where this one is emulated, what emulates it.
 //! The environment's ONLY names the functions to compare; without it all are.
 
 use std::process::ExitCode;
@@ -35,10 +35,11 @@ fn main() -> ExitCode {
     let words: Vec<String> = std::env::args().skip(1).collect();
     let threads = words[0].parse().expect("THREADS");
     let mut sum = functions::compare(threads);
-    if words[1] == "no" {
-        println!("all roots: left out");
-    } else {
-        sum += roots::compare(threads, &words[1]);
+    match words[1].as_str() {
+        "no" | "time" => println!("all roots: left out"),
+        program => sum += roots::compare(threads, program),
+    }
+    if words[1] != "no" {
         time::print(words.get(2));
     }
     println!("{} compared, {} differ", sum.compared, sum.differ);

@@ -70,15 +70,11 @@ pub fn compare(threads: usize) -> Sum {
     let mut lines = Vec::new();
     for class in 0..CLASSES {
         let counts = count(class, threads);
-        lines.push(format!(
-            "  {}: {} questions, {} steps, {} found, {} refused by the judge, {} differ",
-            described(class),
-            counts.questions,
-            counts.steps,
-            counts.numbers[0],
-            counts.refused,
-            counts.differ
-        ));
+        let Counts { questions, steps, numbers, refused, differ, .. } = counts;
+        let (agreed, of) = counts.lengths.agreed();
+        let name = described(class);
+        lines.push(format!("  {name}: {questions} questions, {steps} steps, {} found, {refused} refused by the judge, {differ} differ", numbers[0]));
+        lines.push(format!("    {agreed} of {of} end as the unchanged Rust does, to the bit of the length"));
         all.add(counts);
     }
     println!("{:<24}{:>12}{:>12}{:>12}", NAME, 0, all.questions, all.differ + all.refused);

@@ -13,7 +13,6 @@ use harness::search01;
 
 mod cases;
 mod drawn;
-mod file;
 
 pub struct Case {
     pub name: &'static str,
@@ -56,7 +55,8 @@ fn expected(case: &Case) -> Expected {
     let answer = search01::search(&case.floor, case.start, case.goal, case.places, case.budget);
     let steps = answer.pops;
     let Some(route) = answer.route else { return Expected { number: answer.number, steps, route: Vec::new() } };
-    let route = file::bytes(&case.floor, case.start, case.goal, &route);
+    let polygon = case.floor.polygon_of(case.start).expect("a start on the floor");
+    let route = route.bytes(case.start, polygon, case.goal);
     if route.len() > case.room {
         return Expected { number: 13, steps, route: Vec::new() };
     }
