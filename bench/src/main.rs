@@ -41,8 +41,8 @@ struct Bench {
     stored: Stored,
     mesh: Mesh,
     questions: Vec<(Place, Place)>,
-    /// Questions that were drawn and that one side has no route for.
-    left_out: usize,
+    /// Nanoseconds of each question, the least yet of what `timed` gives.
+    least: Vec<[f64; 4]>,
 }
 
 impl Bench {
@@ -51,7 +51,7 @@ impl Bench {
         let floor = halls.floor(shape, polygons);
         assert_eq!(floor.refused(), 0);
         let (stored, mesh) = (Stored::new(&floor), floor.mesh());
-        let mut bench = Bench { shape, floor, stored, mesh, questions: Vec::new(), left_out: 0 };
+        let mut bench = Bench { shape, floor, stored, mesh, questions: Vec::new(), least: vec![[f64::INFINITY; 4]; QUESTIONS] };
         while bench.questions.len() < QUESTIONS {
             let ends = (halls.point(&bench.floor), halls.point(&bench.floor));
             bench.draw(ends, lent);
@@ -72,9 +72,21 @@ impl Bench {
         let found = self.ours(lent, start, goal).0 == 0 && self.mesh.path_between(asked.0, asked.1).is_some();
         if found {
             self.questions.push(asked);
-        } else {
-            self.left_out += 1;
         }
+    }
+
+    /// Once over all questions, so that none finds the processor as its own last call left it.
+    fn time(&mut self, lent: &mut Lent) {
+        for place in 0..self.questions.len() {
+            let now = timed(self, &self.questions[place], lent);
+            self.least[place].iter_mut().zip(now).for_each(|(least, now)| *least = least.min(now));
+        }
+    }
+
+    /// Over all questions.
+    fn times(&self) -> Times {
+        let sum = |which: usize| self.least.iter().map(|times| times[which]).sum();
+        Times { ours: sum(0), look: sum(1), ends: sum(2), rusts: sum(3) }
     }
 
     /// The number and the counted steps.
@@ -104,11 +116,14 @@ fn main() {
         let bench = Bench::new(place, FLOORS[place], &mut lent);
         return println!("{}: {} questions, {} counted steps", bench.name(), bench.questions.len(), ask_all(&bench, &mut lent));
     }
-    let repetitions = words[0].parse().expect("REPETITIONS, or the word ours");
-    println!("{}", header());
-    for (place, &of) in FLOORS.iter().enumerate() {
-        println!("{}", row(&Bench::new(place, of, &mut lent), repetitions, &mut lent));
+    let repetitions: usize = words[0].parse().expect("REPETITIONS, or the word ours");
+    let mut benches: Vec<Bench> = FLOORS.iter().enumerate().map(|(place, &of)| Bench::new(place, of, &mut lent)).collect();
+    // All floors in each repetition, so that a time at which the machine had other work falls on all of them alike.
+    for _ in 0..repetitions {
+        benches.iter_mut().for_each(|bench| bench.time(&mut lent));
     }
+    println!("{}", header());
+    benches.iter().for_each(|bench| println!("{}", row(bench, &mut lent)));
     println!("Microseconds a question, nanoseconds a pop and a made node: of each of {QUESTIONS} questions the least of {repetitions} calls.");
 }
 
@@ -124,8 +139,8 @@ fn header() -> String {
     format!("{:<16}{:>10}{:>80}{:>55}\n{:<16}{columns}", "", "ours", "Rust", "ours : Rust", "polygons")
 }
 
-fn row(bench: &Bench, repetitions: usize, lent: &mut Lent) -> String {
-    let times = times(bench, repetitions, lent);
+fn row(bench: &Bench, lent: &mut Lent) -> String {
+    let times = bench.times();
     let count = bench.questions.len() as f64;
     let (pops, made) = counted(bench, lent);
     let (rusts_pops, rusts_made) = rusts_counted(bench);
@@ -138,19 +153,6 @@ fn row(bench: &Bench, repetitions: usize, lent: &mut Lent) -> String {
     let theirs = [a_question(rusts_pops), a_question(rusts_made), rusts, each(times.rusts, rusts_pops), each(times.rusts, rusts_made)].concat();
     let ratio = (search / pops as f64) / (times.rusts / rusts_pops as f64);
     format!("{:<16}{ours}{theirs}{ratio:>10.2}{:>10.2}", bench.name(), search / times.rusts)
-}
-
-/// The repetitions go over all questions each time, so that no question finds the processor as its own last call left it.
-fn times(bench: &Bench, repetitions: usize, lent: &mut Lent) -> Times {
-    let mut least = vec![[f64::INFINITY; 4]; bench.questions.len()];
-    for _ in 0..repetitions {
-        for (least, asked) in least.iter_mut().zip(&bench.questions) {
-            let now = timed(bench, asked, lent);
-            least.iter_mut().zip(now).for_each(|(least, now)| *least = least.min(now));
-        }
-    }
-    let sum = |which: usize| least.iter().map(|times| times[which]).sum();
-    Times { ours: sum(0), look: sum(1), ends: sum(2), rusts: sum(3) }
 }
 
 /// Nanoseconds of one question: ours, the look, the look with the ends, and the Rust's. Start to start and goal to goal are

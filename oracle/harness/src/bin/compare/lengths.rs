@@ -66,8 +66,8 @@ pub struct Counts {
     unlisted: usize,
     /// The smallest floor on which that was so.
     example: Option<(usize, String)>,
-    /// The largest part of a length by which two found ones differ.
-    widest: f32,
+    /// The largest part of the Rust's length by which ours differs, and its cause.
+    widest: (f32, u32),
 }
 
 impl Counts {
@@ -76,7 +76,7 @@ impl Counts {
         other.causes.into_iter().for_each(|(cause, count)| *self.causes.entry(cause).or_default() += count);
         self.unlisted += other.unlisted;
         self.example = [self.example.take(), other.example].into_iter().flatten().min();
-        self.widest = self.widest.max(other.widest);
+        self.widest = wider(self.widest, other.widest);
     }
 
     pub fn compare(&mut self, ends: &Ends, floor: &Floor, (start, goal): (Vec2, Vec2), answer: &Answer) {
@@ -94,12 +94,12 @@ impl Counts {
         let (our_length, rusts_length) = (length(&ours), length(&rusts));
         let outcome = Outcome::of(our_length, rusts_length);
         *self.outcomes.entry(outcome).or_default() += 1;
-        if let (Some(ours), Some(rusts)) = (our_length, rusts_length) {
-            self.widest = self.widest.max((ours - rusts).abs() / rusts.max(f32::MIN_POSITIVE));
-        }
         if !outcome.agrees() {
             let agrees = |points| length(&of(points)).map(f32::to_bits) == rusts_length.map(f32::to_bits);
-            *self.causes.entry((outcome, cause(agrees))).or_default() += 1;
+            let cause = cause(agrees);
+            *self.causes.entry((outcome, cause)).or_default() += 1;
+            let wide = our_length.zip(rusts_length).map_or(0.0, |(ours, rusts)| (ours - rusts).abs() / rusts);
+            self.widest = wider(self.widest, (wide, cause));
         }
     }
 
@@ -107,6 +107,12 @@ impl Counts {
     pub fn agreed(&self) -> (usize, usize) {
         let agreed = self.outcomes.iter().filter(|(outcome, _)| outcome.agrees());
         (agreed.map(|(_, count)| count).sum(), self.outcomes.values().sum())
+    }
+
+    /// On how many questions the Rust alone finds a route, and stall recording alone gives ours.
+    pub fn stalled(&self) -> usize {
+        let stalls = (Outcome::OnlyRusts, 1 << POINTS.iter().position(|&point| point == "stall recording").expect("a listed point"));
+        self.causes.get(&stalls).copied().unwrap_or_default()
     }
 
     /// Answers on how many questions the list was not whole.
@@ -119,11 +125,15 @@ impl Counts {
             causes.sort_by_key(|&(count, points)| (usize::MAX - count, points));
             causes.iter().for_each(|&(count, points)| println!("{count:>18}  {}", named(points)));
         }
-        println!("  two lengths that were found differ by {:.1e} of the Rust's at most", self.widest);
+        println!("  two lengths that were found differ by {:.1e} of the Rust's at most: {}", self.widest.0, named(self.widest.1));
         println!("{:>9}  are not explained by the listed points", self.unlisted);
         self.example.iter().for_each(|(_, text)| println!("    {text}"));
         self.unlisted
     }
+}
+
+fn wider(one: (f32, u32), other: (f32, u32)) -> (f32, u32) {
+    if one.0 < other.0 { other } else { one }
 }
 
 /// The first point that alone gives the Rust's length, else a set of which none can be spared.

@@ -74,7 +74,8 @@ pub fn compare(threads: usize) -> Sum {
         let (agreed, of) = counts.lengths.agreed();
         let name = described(class);
         lines.push(format!("  {name}: {questions} questions, {steps} steps, {} found, {refused} refused by the judge, {differ} differ", numbers[0]));
-        lines.push(format!("    {agreed} of {of} end as the unchanged Rust does, to the bit of the length"));
+        let stalled = counts.lengths.stalled();
+        lines.push(format!("    {agreed} of {of} end as the unchanged Rust does, to the bit of the length; {stalled} would with stall recording alone"));
         all.add(counts);
     }
     println!("{:<24}{:>12}{:>12}{:>12}", NAME, 0, all.questions, all.differ + all.refused);
