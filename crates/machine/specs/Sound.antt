@@ -1,5 +1,6 @@
 -- What holds of every state that a search comes through: each place below `taken` holds the seed or a node that a permitted step led to from a lower place, and
--- the queue's words are the tree of some of these places; and each keeps the number of its root's record. Below the door the functions ask for it. Definitions only. Assumes nothing.
+-- the queue's words are the tree of some of these places; and each place keeps the number of its root's record. Below the door the functions ask for it. Definitions
+-- only. Assumes nothing.
 use Prim.Native.Nat.{ℕ, _+_, _*_, _/_, _≤_, _<_}
 use mathlib.Core.Path.{_≡_}
 use mathlib.Core.Bool.{Bool, true, not}

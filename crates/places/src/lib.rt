@@ -166,7 +166,7 @@ pub fn depth_at(words: &[u32], i: usize) -> u32
     words[i * WORDS + 6]
 }
 
-// The number of the record of its root.
+// The number of the record that the root of the node at place i has.
 pub fn number_at(words: &[u32], i: usize) -> u32
     requires { ⌜ (i + 1) * 8 ≤ length (now words) ⌝ }
     ensures { λ r. ⌜ r ≡ numberIn (now (words .entry)) i ⌝ }

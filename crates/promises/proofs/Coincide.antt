@@ -52,7 +52,8 @@ use Rattle.walk_c.proofs.geometry_walk_edge.Reads as geometry-walk-edge
 
 -- ---- what it is to coincide
 
--- Whatever a contract permits of the same arguments, a caller sees the same: the answer, and what each lent buffer holds at exit.
+-- Whatever a contract permits of the same arguments, a caller sees the same: the answer, and what each lent buffer holds at exit. Below, z is the answer and e the arguments
+-- at exit: `e .0` is the first, `e .1 .0` the second and so on, and `.now` is what a reference then refers to.
 abbrev pub Coincide : {L A Z E S : Type 0} → (L → A → Z → E → Type 0) → (Z → E → S) → Type 0
 Coincide {L} {A} {Z} {E} permits seen = (κs : L) (a : A) (z y : Z) (e f : E) → permits κs a z e → permits κs a y f → seen z e ≡ seen y f
 
