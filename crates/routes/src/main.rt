@@ -201,7 +201,7 @@ fn search_with(
     let mut floats = room_for_floats();
     let mut words = room_for_words();
     let mut queue = room_for_queue();
-    let n = console::at_most(lent.places, search::MOST_PLACES);
+    let n = console::at_most(lent.places, places::MOST_PLACES);
     search::search(
         vertices,
         polygons,
