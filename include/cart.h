@@ -9,8 +9,8 @@
    write to any of it while the call runs. The functions keep nothing between calls, take no heap and do not recurse. All that they
    want of the linker is memcpy and memset.
 
-   Stack, with the arguments, on x86-64: cart_search 2,936 bytes, cart_judge 2,632, cart_read_out 2,808, cart_words 8. That is what
-   examples/stack.c measures; no input takes more (docs/DECISIONS.md). */
+   Stack, with the arguments, on x86-64: cart_search 2,072 bytes, cart_judge 1,736, cart_read_out 1,912, cart_words 8. That is what
+   examples/stack.c measures (docs/DECISIONS.md). */
 
 #ifndef CART_H
 #define CART_H

@@ -6,6 +6,7 @@ pub mod floors;
 pub mod functions;
 pub mod halls;
 pub mod inputs;
+pub mod judge01;
 pub mod listed;
 pub mod listed_search;
 pub mod random;
