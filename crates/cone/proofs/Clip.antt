@@ -5,9 +5,9 @@ use mathlib.Core.Path.{_≡_, refl, sym, _∙_}
 use mathlib.Core.Bool.{Bool, true, false, cond, or-true}
 use mathlib.Core.Logic.{_⊎_, inl, inr, _↔_}
 use lib.Ieee.{Float, nan, inf, fin, binary32, add, sub, mul, lt}
-use Rattle.helpers.specs.declared.point.Point.{Point}
-use Rattle.helpers.specs.declared.point.Segment.{Segment}
-use Rattle.helpers.specs.Point.{zero, one, slack, minusOf, plusOf, timesOf, lengthOf}
+use Rattle.point.specs.declared.Point.{Point}
+use Rattle.point.specs.declared.Segment.{Segment}
+use Rattle.point.specs.Point.{zero, one, slack, minusOf, plusOf, timesOf, lengthOf}
 use Rattle.cone.specs.declared.Cone.{Cone}
 use Rattle.cone.specs.declared.Part.{Part}
 use Rattle.cone.specs.declared.Cut.{Cut}

@@ -5,9 +5,9 @@ use mathlib.Core.Bool.{true, false}
 use lib.Ieee.{add, sub, mul, div, neg, lt, ofBits, odd, size, round}
 use Rattle.float.specs.Units.{unitsOf}
 use Rattle.root.specs.Root.{rootOf, roundedRoot, dropped, nearestRoot, wholeRoot}
-use Rattle.helpers.specs.declared.point.Point.{Point}
-use Rattle.helpers.specs.declared.point.Segment.{Segment}
-use Rattle.helpers.specs.Point.{zero, one, pointOf, fromBitsOf, minusOf, plusOf, timesOf, dotOf, perpDotOf, lengthOf, distanceSquaredOf}
+use Rattle.point.specs.declared.Point.{Point}
+use Rattle.point.specs.declared.Segment.{Segment}
+use Rattle.point.specs.Point.{zero, one, pointOf, fromBitsOf, minusOf, plusOf, timesOf, dotOf, perpDotOf, lengthOf, distanceSquaredOf}
 use Rattle.cone.specs.declared.Cut.the-variants.{Kept}
 use Rattle.cone.specs.declared.Clipped.{Clipped}
 use Rattle.cone.specs.declared.Clipped.the-variants.{Seen, Nothing}

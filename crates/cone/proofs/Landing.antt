@@ -4,7 +4,7 @@ use native.Mathlib.Omega.{arith}
 use mathlib.Core.Path.{_≡_, refl, ap, _∙_, sym}
 use mathlib.Core.Bool.{false}
 use lib.Ieee.{Float, binary32, ofBits, toBits, mul, round, odd, size}
-use Rattle.helpers.specs.Point.{landing}
+use Rattle.point.specs.Point.{landing}
 
 -- 01, A permitted step: "below 0.002 × 0.002". It is the f32 product of f32 0.002 with itself.
 pub landing-squared : toBits binary32 (mul binary32 landing landing) ≡ 0x368637BE

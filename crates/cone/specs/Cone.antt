@@ -1,10 +1,10 @@
--- The clip to a cone, as document 01 has it under "Geometry", in the order of polyanya's `clip_to_cone` (src/instance.rs). Rests on the definitions of `helpers`. Assumes nothing.
+-- The clip to a cone, as document 01 has it under "Geometry", in the order of polyanya's `clip_to_cone` (src/instance.rs). Rests on the definitions of `point`. Assumes nothing.
 -- Each definition is what the contract of the function of that name says, with `Of` behind it. A comment in quotes is 01's sentence.
 use mathlib.Core.Bool.{Bool, cond, _&&_, _||_}
 use lib.Ieee.{Float, binary32, add, sub, div, neg, lt}
-use Rattle.helpers.specs.declared.point.Point.{Point}
-use Rattle.helpers.specs.declared.point.Segment.{Segment}
-use Rattle.helpers.specs.Point.{zero, one, slack, minusOf, plusOf, timesOf, perpDotOf, lengthOf}
+use Rattle.point.specs.declared.Point.{Point}
+use Rattle.point.specs.declared.Segment.{Segment}
+use Rattle.point.specs.Point.{zero, one, slack, minusOf, plusOf, timesOf, perpDotOf, lengthOf}
 use Rattle.cone.specs.declared.Ray.{Ray}
 use Rattle.cone.specs.declared.Cone.{Cone}
 use Rattle.cone.specs.declared.Part.{Part}

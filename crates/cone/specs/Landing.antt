@@ -1,8 +1,8 @@
--- Whether an interval's end lands on a vertex, as document 01 has it under "A permitted step". Rests on the definitions of `helpers`. Assumes nothing.
+-- Whether an interval's end lands on a vertex, as document 01 has it under "A permitted step". Rests on the definitions of `point`. Assumes nothing.
 use mathlib.Core.Bool.{Bool}
 use lib.Ieee.{binary32, mul, lt}
-use Rattle.helpers.specs.declared.point.Point.{Point}
-use Rattle.helpers.specs.Point.{landing, distanceSquaredOf}
+use Rattle.point.specs.declared.Point.{Point}
+use Rattle.point.specs.Point.{landing, distanceSquaredOf}
 
 -- 01, A permitted step: "An interval end lands on a vertex when its squared distance to it is below 0.002 × 0.002 (the source also scales by distance; that factor is not in our text)."
 -- The root, from which the source measures that distance, is not looked at.

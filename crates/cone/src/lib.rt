@@ -4,8 +4,8 @@
 ghost use mathlib.Core.Path.{_≡_};
 ghost use Rattle.cone.specs.Cone.{rayOf, coneOf, hasShortRayOf, fromRightOf, fromLeftOf, bothOutsideOf, fractionOf, raisedOf, loweredOf, cutOf, partInsideOf, partOf, clipOf, clipToConeOf};
 ghost use Rattle.cone.specs.Landing.{landsOnOf};
-use helpers::Point;
-use helpers::Segment;
+use point::Point;
+use point::Segment;
 
 // What is seen of a segment.
 pub enum Clipped {

@@ -1,16 +1,16 @@
 // The clip to a cone and the landing on a vertex for C, on f32 bit patterns, as geometry_c has the rest of the geometry.
 
 ghost use mathlib.Core.Path.{_≡_};
-ghost use Rattle.helpers.specs.Point.{fromBitsOf};
+ghost use Rattle.point.specs.Point.{fromBitsOf};
 ghost use Rattle.cone.specs.Cone.{clipToConeOf};
 ghost use Rattle.cone.specs.Landing.{landsOnOf};
 ghost use Rattle.patterns.specs.Patterns.{segmentOf, truthNumber};
 ghost use Rattle.cone_c.specs.Clip.{segmentBits, clippedNumber, clippedWritten};
 use cone::Clipped;
-use helpers::Point;
-use helpers::Segment;
 use patterns::segment;
 use patterns::truth_number;
+use point::Point;
+use point::Segment;
 
 // Writes the bit patterns of the coordinates of a segment's start, and then of its end.
 fn put_segment(out: &mut [u32; 4], segment: Segment)

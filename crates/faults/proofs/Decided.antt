@@ -12,7 +12,7 @@ use Rattle.counts.specs.Counts.{every, some}
 use Rattle.counts.proofs.Laws.{some-at, some-true}
 use Rattle.counts.proofs.Decides.{every-decides}
 use Rattle.float.proofs.Tests.{and-true, or-true, untrue}
-use Rattle.helpers.specs.declared.point.Point.{Point}
+use Rattle.point.specs.declared.Point.{Point}
 use Rattle.stored.specs.Stored.{Floor, Polygon, unused, corner, neighbour, cornerCount, cornerAfter, polygon, isListed}
 use Rattle.faults.specs.Tests.{lengthRight, coordinateRight, pointRight, restUnused, unlikeEarlier, distinct, cornersListed, cornersRight, isBack, namesBack, linkRight, linksRight}
 use Rattle.faults.specs.Accepted.{InRange, Corners, Back, Links}

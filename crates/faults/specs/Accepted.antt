@@ -6,8 +6,8 @@ use mathlib.Core.List.{List}
 use mathlib.Core.Logic.{_⊎_}
 use lib.ListN.{length, getD}
 use lib.Ieee.{le, neg}
-use Rattle.helpers.specs.declared.point.Point.{Point}
-use Rattle.helpers.specs.Point.{limit}
+use Rattle.point.specs.declared.Point.{Point}
+use Rattle.point.specs.Point.{limit}
 use Rattle.stored.specs.Stored.{Floor, Polygon, polygonAt, floorOf, unused, origin, corner, neighbour, cornerCount, cornerAfter, polygon}
 
 -- "Coordinates are finite, of magnitude at most 16,384."

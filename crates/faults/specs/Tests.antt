@@ -7,8 +7,8 @@ use lib.Dec.{leb, ltb, eqb}
 use lib.ListN.{length}
 use lib.Ieee.{Float, neg, le}
 use Rattle.counts.specs.Counts.{every, some}
-use Rattle.helpers.specs.declared.point.Point.{Point}
-use Rattle.helpers.specs.Point.{limit}
+use Rattle.point.specs.declared.Point.{Point}
+use Rattle.point.specs.Point.{limit}
 use Rattle.stored.specs.Stored.{Floor, Polygon, questionOf, unused, corner, neighbour, cornerCount, cornerAfter, polygon, isListed}
 
 -- ---- 2 and 3: the lists' lengths

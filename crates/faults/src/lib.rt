@@ -7,7 +7,7 @@ ghost use lib.ListN.{length};
 ghost use Rattle.counts.specs.Counts.{every};
 ghost use Rattle.stored.specs.Stored.{unused, floorOf, slotAt, polygonAt, cornerCount};
 ghost use Rattle.faults.specs.Tests.{lengthRight, coordinateRight, pointRight, restUnused, unlikeEarlier, distinct, cornersListed, cornersRight, isBack, namesBack, linkRight, linksRight};
-use helpers::Point;
+use point::Point;
 use stored::UNUSED;
 use stored::corner;
 use stored::corner_after;

@@ -14,10 +14,10 @@ use lib.ListN.{length, getD}
 use Rattle.counts.specs.Counts.{first, Least}
 use Rattle.counts.proofs.Decides.{Tells, holds-not, not-holds, every-decides, first-tells-fault, first-is-least, least-is-first, some-is-so}
 use Rattle.float.proofs.Tests.{untrue}
-use Rattle.helpers.specs.declared.point.Point.{Point}
-use Rattle.helpers.specs.declared.EdgeSide.{EdgeSide}
-use Rattle.helpers.specs.declared.EdgeSide.the-variants.{Left, Right, Edge}
-use Rattle.helpers.specs.Helpers.{sideOf, sameSideOf}
+use Rattle.point.specs.declared.Point.{Point}
+use Rattle.point.specs.declared.EdgeSide.{EdgeSide}
+use Rattle.point.specs.declared.EdgeSide.the-variants.{Left, Right, Edge}
+use Rattle.point.specs.Sides.{sideOf, sameSideOf}
 use Rattle.floor.specs.declared.Refusal.{Refusal}
 use Rattle.floor.specs.declared.Refusal.the-variants.{VertexLength, PolygonLength, Vertex, Corners as CornersFault, Links as LinksFault, Question, StartOutside, GoalOutside}
 use Rattle.floor.specs.declared.FloorLook.{FloorLook}

@@ -9,7 +9,7 @@ use mathlib.Core.List.{List}
 use borrow.Author.Tests.{eqb-true, eqb-false, eq-eqb, ne-eqb}
 use lib.Dec.{eqb}
 use lib.ListN.{length, getD}
-use Rattle.helpers.specs.Point.{plusOf}
+use Rattle.point.specs.Point.{plusOf}
 use Rattle.stored.specs.Stored.{Floor, unused, origin, vertexAt, polygonAt, floorOf, corner, cornerCount, cornerAfter, polygon, vertex, edge}
 use Rattle.faults.specs.Accepted.{Corners, Accepted, Listed}
 use Rattle.stored.proofs.Records.{corner-beyond, corner-slots, count-slots, polygon-count, vertex-count, polygon-is, vertex-is}

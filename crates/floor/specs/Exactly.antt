@@ -6,9 +6,9 @@ use mathlib.Core.Path.{_≡_}
 use mathlib.Core.List.{List}
 use lib.ListN.{length, getD}
 use Rattle.counts.specs.Counts.{Lowest, Least}
-use Rattle.helpers.specs.declared.point.Point.{Point}
-use Rattle.helpers.specs.declared.EdgeSide.the-variants.{Right}
-use Rattle.helpers.specs.Helpers.{sideOf}
+use Rattle.point.specs.declared.Point.{Point}
+use Rattle.point.specs.declared.EdgeSide.the-variants.{Right}
+use Rattle.point.specs.Sides.{sideOf}
 use Rattle.floor.specs.declared.Refusal.{Refusal}
 use Rattle.floor.specs.declared.Refusal.the-variants.{VertexLength, PolygonLength, Vertex, Corners as CornersFault, Links as LinksFault, Question, StartOutside, GoalOutside}
 use Rattle.floor.specs.declared.FloorLook.{FloorLook}

@@ -6,9 +6,9 @@ use lib.Bits.{bitOr}
 use lib.Dec.{eqb}
 use lib.ListN.{length, getD, set, replicate}
 use Rattle.counts.specs.Counts.{every, some, first}
-use Rattle.helpers.specs.declared.point.Point.{Point}
-use Rattle.helpers.specs.declared.EdgeSide.the-variants.{Right}
-use Rattle.helpers.specs.Helpers.{sideOf, sameSideOf}
+use Rattle.point.specs.declared.Point.{Point}
+use Rattle.point.specs.declared.EdgeSide.the-variants.{Right}
+use Rattle.point.specs.Sides.{sideOf, sameSideOf}
 use Rattle.stored.specs.Stored.{Floor, Polygon, unused, corner, neighbour, cornerCount, cornerAfter, polygon, edge}
 
 -- "A polygon contains a point if the point is Right of none of its edges."

@@ -6,16 +6,16 @@ ghost use mathlib.Core.Path.{_≡_};
 ghost use Prim.Native.Nat.{_*_, _/_, _≤_, _<_, _^_};
 ghost use mathlib.Core.Bool.{not};
 ghost use lib.ListN.{length, getD};
-ghost use Rattle.helpers.specs.declared.EdgeSide.the-variants.{Right};
-ghost use Rattle.helpers.specs.Helpers.{sideOf, sameSideOf};
+ghost use Rattle.point.specs.declared.EdgeSide.the-variants.{Right};
+ghost use Rattle.point.specs.Sides.{sideOf, sameSideOf};
 ghost use Rattle.stored.specs.Stored.{origin, polygonAt, floorOf, polygon, cornerCount, edge};
 ghost use Rattle.faults.specs.Tests.{pointRight, cornersRight, questionRight};
 ghost use Rattle.faults.specs.Accepted.{Accepted, Listed};
 ghost use Rattle.floor.specs.Where.{contains, polygonOf};
 ghost use Rattle.floor.specs.Look.{badVertex, badCorners, badLinks, floorLookOf, askOf, lookOf, refusalNumber};
-use helpers::EdgeSide;
-use helpers::Point;
-use helpers::Segment;
+use point::EdgeSide;
+use point::Point;
+use point::Segment;
 
 pub mod turns;
 
@@ -175,7 +175,7 @@ fn is_right(
     ensures { λ r. ⌜ r ≡ sameSideOf (sideOf point (edge (floorOf slots (now (vertices .entry)) (now (polygons .entry))) p i)) Right ⌝ }
 {
     let line = edge(vertices, polygons, slots, p, i);
-    helpers::same_side(point.side(line), EdgeSide::Right)
+    point::same_side(point.side(line), EdgeSide::Right)
 }
 
 // A polygon contains a point that is Right of none of its edges.

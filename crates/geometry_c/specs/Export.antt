@@ -1,10 +1,10 @@
--- The numbers of each answer, and what is written for it, where C calls the geometry. Rests on the definitions of `helpers`. Assumes nothing.
+-- The numbers of each answer, and what is written for it, where C calls the geometry. Rests on the definitions of `point` and `helpers`. Assumes nothing.
 use Prim.Native.Nat.{ℕ}
 use mathlib.Core.List.{List, [], _∷_}
 use lib.Ieee.{binary32, toBits}
-use Rattle.helpers.specs.declared.point.Point.{Point}
-use Rattle.helpers.specs.declared.EdgeSide.{EdgeSide}
-use Rattle.helpers.specs.declared.EdgeSide.the-variants.{Left, Right, Edge}
+use Rattle.point.specs.declared.Point.{Point}
+use Rattle.point.specs.declared.EdgeSide.{EdgeSide}
+use Rattle.point.specs.declared.EdgeSide.the-variants.{Left, Right, Edge}
 use Rattle.helpers.specs.declared.Crossing.{Crossing}
 use Rattle.helpers.specs.declared.Crossing.the-variants.{At, Nowhere}
 use Rattle.helpers.specs.declared.Turn.{Turn}

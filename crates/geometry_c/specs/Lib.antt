@@ -1,2 +1,2 @@
--- What the contracts of `geometry_c` cite beside those of `helpers`.
+-- What the contracts of `geometry_c` cite beside those of `point` and `helpers`.
 pub mod Export

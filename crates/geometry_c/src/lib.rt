@@ -4,16 +4,17 @@
 ghost use mathlib.Core.Path.{_≡_};
 ghost use lib.Ieee.{binary32, ofBits, toBits};
 ghost use Rattle.root.specs.Root.{rootOf};
-ghost use Rattle.helpers.specs.Point.{fromBitsOf, dotOf, perpDotOf, lengthOf, distanceOf, projectOntoOf};
-ghost use Rattle.helpers.specs.Helpers.{sideOf, mirrorOf, onSegmentOf, inBoundingBoxOf, minOf, maxOf, heuristicOf, turningPointOf, intersectionTimeOf, lineIntersectSegmentOf};
+ghost use Rattle.point.specs.Point.{fromBitsOf, dotOf, perpDotOf, lengthOf, distanceOf, projectOntoOf};
+ghost use Rattle.point.specs.Sides.{sideOf, mirrorOf, onSegmentOf, inBoundingBoxOf, minOf, maxOf};
+ghost use Rattle.helpers.specs.Helpers.{heuristicOf, turningPointOf, intersectionTimeOf, lineIntersectSegmentOf};
 ghost use Rattle.patterns.specs.Patterns.{segmentOf, truthNumber};
 ghost use Rattle.geometry_c.specs.Export.{sideNumber, turnNumber, crossingNumber, pointBits, turnWritten, crossingWritten};
 use helpers::Crossing;
-use helpers::EdgeSide;
-use helpers::Point;
 use helpers::Turn;
 use patterns::segment;
 use patterns::truth_number;
+use point::EdgeSide;
+use point::Point;
 
 fn side_number(side: EdgeSide) -> u32
     ensures { λ r. ⌜ r ≡ sideNumber side ⌝ }
@@ -43,14 +44,14 @@ pub extern "C" fn geometry_root(x: u32) -> u32
 pub extern "C" fn geometry_min(x: u32, y: u32) -> u32
     ensures { λ r. ⌜ r ≡ toBits binary32 (minOf (ofBits binary32 x) (ofBits binary32 y)) ⌝ }
 {
-    float::to_bits(helpers::min(float::from_bits(x), float::from_bits(y)))
+    float::to_bits(point::min(float::from_bits(x), float::from_bits(y)))
 }
 
 #[no_mangle]
 pub extern "C" fn geometry_max(x: u32, y: u32) -> u32
     ensures { λ r. ⌜ r ≡ toBits binary32 (maxOf (ofBits binary32 x) (ofBits binary32 y)) ⌝ }
 {
-    float::to_bits(helpers::max(float::from_bits(x), float::from_bits(y)))
+    float::to_bits(point::max(float::from_bits(x), float::from_bits(y)))
 }
 
 // 0 is Left, 1 is Right, 2 is Edge.

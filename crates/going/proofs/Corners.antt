@@ -10,7 +10,7 @@ use lib.Dec.{eqb}
 use lib.ListN.{length, List·getD-eq-default}
 use Rattle.counts.specs.Counts.{first, table}
 use Rattle.counts.proofs.Laws.{first-at, first-before, getD-table, length-table}
-use Rattle.helpers.specs.declared.point.Point.{Point}
+use Rattle.point.specs.declared.Point.{Point}
 use Rattle.walk.specs.Round.{wrapped, cornerOf, edgeOf}
 use Rattle.walk.proofs.Wrap.{wrapped-below, wrapped-past}
 use Rattle.stored.specs.Stored.{Floor, Polygon, unused, corner, cornerCount, cornerAfter, polygon, vertex, edge}

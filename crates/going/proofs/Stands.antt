@@ -11,7 +11,7 @@ use borrow.Author.Tests.{eq-eqb}
 use lib.Dec.{T, eqb}
 use lib.ListN.{length, List·getD-eq-default}
 use Rattle.counts.proofs.Laws.{first-below}
-use Rattle.helpers.specs.declared.point.Point.{Point}
+use Rattle.point.specs.declared.Point.{Point}
 use Rattle.walk.specs.Round.{Successor}
 use Rattle.stored.specs.Stored.{Floor, Polygon, unused, polygonAt, floorOf, corner, neighbour, cornerCount, cornerAfter, polygon}
 use Rattle.faults.specs.Accepted.{Accepted, Links, Back}

@@ -6,7 +6,7 @@ use mathlib.Core.Bool.{false, cond}
 use mathlib.Core.List.{List, [], _∷_, _++_}
 use lib.Dec.{ltb}
 use lib.ListN.{length, drop}
-use Rattle.helpers.specs.declared.point.Segment.{Segment}
+use Rattle.point.specs.declared.Segment.{Segment}
 use Rattle.walk.specs.declared.SuccessorType.{SuccessorType}
 use Rattle.walk.specs.declared.SuccessorType.the-variants.{Observable}
 use Rattle.walk.specs.declared.Walked.{Walked}

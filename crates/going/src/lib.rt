@@ -10,7 +10,7 @@ ghost use Rattle.walk.specs.Turns.{isOverOf};
 ghost use Rattle.stored.specs.Stored.{floorOf, polygonAt};
 ghost use Rattle.steps.specs.Steps.{placeOf};
 ghost use Rattle.going.specs.Going.{wholeOf, walkBy, onEdge, beginGoing, nextGoing, Stands, Turning, Goes};
-use helpers::Segment;
+use point::Segment;
 use steps::Node;
 use walk::Part;
 use walk::Round;

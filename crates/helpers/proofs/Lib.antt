@@ -1,3 +1,2 @@
--- What belongs to no one function: the cases that a test leads to, and the laws of the helpers.
-pub mod Cases
+-- What belongs to no one function: where a NaN leads.
 pub mod Laws

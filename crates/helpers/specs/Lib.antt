@@ -1,3 +1,2 @@
--- What the contracts of `helpers` cite.
-pub mod Point
+-- What the contracts of `helpers` cite beside those of `point`.
 pub mod Helpers

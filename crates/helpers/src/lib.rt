@@ -1,20 +1,11 @@
-// The port of vleue/polyanya's src/helpers.rs, under its own names: on which side of a line a point is, where a line meets
-// a segment, and how far it is to the goal through an interval.
+// The port of vleue/polyanya's src/helpers.rs, under its own names: where a line meets a segment, and how far it is to the
+// goal through an interval. Its methods of a point, and min and max, are in the crate `point`.
 
 ghost use mathlib.Core.Path.{_≡_};
-ghost use Rattle.helpers.specs.Helpers.{magnitudeOf, sideOf, sameSideOf, mirrorOf, onSegmentOf, betweenOf, inBoundingBoxOf, minOf, maxOf, goalBeyondOf, heuristicOf, turningPointOf, intersectionTimeOf, crossesOf, clampOf, lineIntersectSegmentOf};
-
-mod point;
-
-pub use point::Point;
-pub use point::Segment;
-
-// Where a point is, seen along a line.
-pub enum EdgeSide {
-    Left,
-    Right,
-    Edge,
-}
+ghost use Rattle.helpers.specs.Helpers.{goalBeyondOf, heuristicOf, turningPointOf, intersectionTimeOf, crossesOf, clampOf, lineIntersectSegmentOf};
+use point::EdgeSide;
+use point::Point;
+use point::Segment;
 
 // Where a line meets a segment.
 pub enum Crossing {
@@ -28,118 +19,11 @@ pub enum Turn {
     Straight,
 }
 
-impl Point {
-    // Determines where relative to the given line the point is: Edge if the area is within EPSILON of zero, else Left if
-    // it is positive, else Right. NaN is Right.
-    pub fn side(self, line: Segment) -> EdgeSide
-        ensures { λ r. ⌜ r ≡ sideOf self line ⌝ }
-    {
-        let local_point = self.minus(line.0);
-        let local_line = line.1.minus(line.0);
-        let area = local_line.perp_dot(local_point);
-        if magnitude(area) < Point::EPSILON {
-            return EdgeSide::Edge;
-        }
-        if area > 0.0 {
-            return EdgeSide::Left;
-        }
-        EdgeSide::Right
-    }
-
-    // Mirrors a point across a line defined by two points.
-    pub fn mirror(self, line: Segment) -> Point
-        ensures { λ r. ⌜ r ≡ mirrorOf self line ⌝ }
-    {
-        let local_point = self.minus(line.0);
-        let local_line = line.1.minus(line.0);
-        let local_reflect_point = local_point
-            .project_onto(local_line)
-            .times(2.0)
-            .minus(local_point);
-        line.0.plus(local_reflect_point)
-    }
-
-    // Determines if a point lies on a line segment. Being on the line is not enough: the point can be
-    // outside the segment but still be on the line.
-    pub fn on_segment(self, segment: Segment) -> bool
-        ensures { λ r. ⌜ r ≡ onSegmentOf self segment ⌝ }
-    {
-        self.in_bounding_box(segment) && same_side(self.side(segment), EdgeSide::Edge)
-    }
-
-    // Determines if a point is in a bounding box.
-    pub fn in_bounding_box(self, segment: Segment) -> bool
-        ensures { λ r. ⌜ r ≡ inBoundingBoxOf self segment ⌝ }
-    {
-        between(self.x, segment.0.x, segment.1.x) && between(self.y, segment.0.y, segment.1.y)
-    }
-}
-
-// Rust's == on sides, which the proofs take only as a match.
-pub fn same_side(a: EdgeSide, b: EdgeSide) -> bool
-    ensures { λ r. ⌜ r ≡ sameSideOf a b ⌝ }
-{
-    match a {
-        EdgeSide::Left => match b {
-            EdgeSide::Left => true,
-            EdgeSide::Right => false,
-            EdgeSide::Edge => false,
-        },
-        EdgeSide::Right => match b {
-            EdgeSide::Left => false,
-            EdgeSide::Right => true,
-            EdgeSide::Edge => false,
-        },
-        EdgeSide::Edge => match b {
-            EdgeSide::Left => false,
-            EdgeSide::Right => false,
-            EdgeSide::Edge => true,
-        },
-    }
-}
-
-// The magnitude of x, as far as a comparison can tell: -0.0 stays, and no comparison knows it from 0.0.
-fn magnitude(x: f32) -> f32
-    ensures { λ r. ⌜ r ≡ magnitudeOf x ⌝ }
-{
-    if x < 0.0 {
-        return -x;
-    }
-    x
-}
-
-// Whether x is between a and b in either order, or at most Point::BOX_EPSILON past them. NaN is in no range.
-fn between(x: f32, a: f32, b: f32) -> bool
-    ensures { λ r. ⌜ r ≡ betweenOf x a b ⌝ }
-{
-    min(a, b) - Point::BOX_EPSILON <= x && x <= max(a, b) + Point::BOX_EPSILON
-}
-
-// The second operand unless the comparison holds: so min(-0.0, 0.0) is 0.0, and a NaN comes back only as the second.
-pub fn min(x: f32, y: f32) -> f32
-    ensures { λ r. ⌜ r ≡ minOf x y ⌝ }
-{
-    if x < y {
-        return x;
-    }
-    y
-}
-
-// The second operand unless the comparison holds.
-pub fn max(x: f32, y: f32) -> f32
-    ensures { λ r. ⌜ r ≡ maxOf x y ⌝ }
-{
-    if x > y {
-        return x;
-    }
-    y
-}
-
 // If the goal is on the same side of the interval with the root, then we mirror it.
 fn goal_beyond(root: Point, goal: Point, interval: Segment) -> Point
     ensures { λ r. ⌜ r ≡ goalBeyondOf root goal interval ⌝ }
 {
-    if same_side(root.side(interval), goal.side(interval)) {
+    if point::same_side(root.side(interval), goal.side(interval)) {
         return goal.mirror(interval);
     }
     goal
@@ -177,10 +61,10 @@ pub fn turning_point(root: Point, goal: Point, interval: Segment) -> Turn
     if root.same(right) {
         return Turn::Straight;
     }
-    if same_side(goal.side(Segment(root, right)), EdgeSide::Right) {
+    if point::same_side(goal.side(Segment(root, right)), EdgeSide::Right) {
         return Turn::Around(right);
     }
-    if same_side(goal.side(Segment(root, left)), EdgeSide::Left) {
+    if point::same_side(goal.side(Segment(root, left)), EdgeSide::Left) {
         return Turn::Around(left);
     }
     Turn::Straight

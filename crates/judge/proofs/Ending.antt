@@ -4,7 +4,7 @@ use mathlib.Core.Path.{_≡_, refl, ap, _∙_}
 use mathlib.Core.Bool.{Bool, true, false}
 use mathlib.Core.List.{List}
 use borrow.Author.Tests.{eq-eqb, ne-eqb}
-use Rattle.helpers.specs.declared.point.Point.{Point}
+use Rattle.point.specs.declared.Point.{Point}
 use Rattle.records.specs.declared.Record.{Record}
 use Rattle.route.specs.declared.Judged.the-variants.{Accepted, NotEnd}
 use Rattle.route.specs.Record.{recordAt, endBytes}

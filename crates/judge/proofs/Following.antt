@@ -6,8 +6,8 @@ use mathlib.Core.Path.{_≡_, refl, sym, ap, _∙_, subst}
 use mathlib.Core.Bool.{Bool, true, false, cond}
 use mathlib.Core.List.{List}
 use lib.ListN.{length}
-use Rattle.helpers.specs.declared.point.Point.{Point}
-use Rattle.helpers.specs.Point.{sameOf}
+use Rattle.point.specs.declared.Point.{Point}
+use Rattle.point.specs.Point.{sameOf}
 use Rattle.stored.specs.Stored.{Floor, floorOf}
 use Rattle.route.specs.declared.Step.{Step}
 use Rattle.route.specs.declared.Judged.the-variants.{NotStep}

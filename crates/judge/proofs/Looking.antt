@@ -5,7 +5,7 @@ use mathlib.Core.List.{List}
 use lib.Dec.{lit<, lit≤}
 use lib.ListN.{length}
 use Rattle.floor.specs.declared.Look.the-variants.{Inside}
-use Rattle.helpers.specs.declared.point.Point.{Point}
+use Rattle.point.specs.declared.Point.{Point}
 use Rattle.stored.specs.Stored.{Floor, Question, floorOf, questionOf}
 use Rattle.faults.specs.Accepted.{Accepted}
 use Rattle.floor.specs.Where.{marksOf, polygonOf}

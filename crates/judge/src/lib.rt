@@ -12,7 +12,7 @@ ghost use Rattle.judge.specs.Ready.{Ready};
 use floor::Look;
 use floor::Refusal;
 use floor::SLOTS;
-use helpers::Point;
+use point::Point;
 use records::Record;
 use route::Judged;
 use route::Sought;

@@ -8,9 +8,9 @@ use lib.Dec.{T, eqb}
 use lib.Ieee.{ofBits}
 use Rattle.float.proofs.Tests.{untrue}
 use lib.ListN.{length}
-use Rattle.helpers.specs.declared.point.Point.{Point}
-use Rattle.helpers.specs.Point as point
-use Rattle.helpers.specs.Point.{sameOf}
+use Rattle.point.specs.declared.Point.{Point}
+use Rattle.point.specs.Point as point
+use Rattle.point.specs.Point.{sameOf}
 use Rattle.stored.specs.Stored.{Floor, floorOf}
 use Rattle.faults.specs.Accepted.{Accepted}
 use Rattle.route.specs.World.{_∈_}

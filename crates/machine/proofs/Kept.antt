@@ -9,8 +9,8 @@ use borrow.Author.Tests.{eqb-false, leb-false}
 use lib.Dec.{T, eqb, leb, ltb}
 use lib.Ieee.{Float, binary32, add, isNan}
 use lib.ListN.{length}
-use Rattle.helpers.specs.Point as point
-use Rattle.helpers.specs.Point.{sameOf}
+use Rattle.point.specs.Point as point
+use Rattle.point.specs.Point.{sameOf}
 use Rattle.helpers.specs.Helpers.{heuristicOf}
 use Rattle.walk.specs.declared.SuccessorType.{SuccessorType}
 use Rattle.walk.specs.declared.SuccessorType.the-variants.{LeftNonObservable, Observable, RightNonObservable}

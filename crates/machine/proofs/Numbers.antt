@@ -11,8 +11,8 @@ use lib.ListN.{length}
 use Rattle.float.proofs.Tests.{untrue}
 use Rattle.float.proofs.Nan.{is-nan}
 use Rattle.root.specs.Root.{rootOf}
-use Rattle.helpers.specs.declared.point.Point.{Point}
-use Rattle.helpers.specs.Point.{sameOf, minusOf, dotOf, lengthOf, distanceOf}
+use Rattle.point.specs.declared.Point.{Point}
+use Rattle.point.specs.Point.{sameOf, minusOf, dotOf, lengthOf, distanceOf}
 use Rattle.helpers.specs.Helpers.{heuristicOf}
 use Rattle.stored.specs.Stored.{Floor}
 use Rattle.route.specs.declared.Step.{Step}

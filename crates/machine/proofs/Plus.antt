@@ -6,9 +6,9 @@ use lib.Dec.{T, ltb, eqb}
 use lib.Ieee.{Float, nan, inf, fin, Format, binary32, prec, low, emax, odd, units, round, sum, add, mul, isNan, lt}
 use lib.Ieee.Fits.{round-is}
 use Rattle.root.specs.Root.{rootOf, roundedRoot, squareUnits}
-use Rattle.helpers.specs.declared.point.Point.{Point}
-use Rattle.helpers.specs.declared.point.Segment.{Segment}
-use Rattle.helpers.specs.Point.{dotOf, lengthOf, endsAtOf, distanceOf}
+use Rattle.point.specs.declared.Point.{Point}
+use Rattle.point.specs.declared.Segment.{Segment}
+use Rattle.point.specs.Point.{dotOf, lengthOf, endsAtOf, distanceOf}
 use Rattle.helpers.specs.Helpers.{heuristicOf}
 use Rattle.machine.specs.Sound.{isPlus}
 

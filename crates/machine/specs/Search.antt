@@ -5,8 +5,8 @@ use mathlib.Core.Bool.{Bool, true, false, _||_, cond}
 use mathlib.Core.List.{List, [], _∷_}
 use lib.Dec.{leb, ltb, eqb}
 use lib.Ieee.{Float, binary32, add, lt, isNan}
-use Rattle.helpers.specs.declared.point.Point.{Point}
-use Rattle.helpers.specs.Point as point
+use Rattle.point.specs.declared.Point.{Point}
+use Rattle.point.specs.Point as point
 use Rattle.helpers.specs.Helpers.{heuristicOf}
 use Rattle.stored.specs.Stored.{Floor}
 use Rattle.route.specs.declared.Step.{Step}

@@ -1,6 +1,6 @@
 // What a search is asked, what it counts, and how its steps and it itself end. All by value.
 
-use helpers::Point;
+use point::Point;
 use steps::Node;
 
 // What is asked of a floor of so many slots a polygon: the goal, the polygon that it is in, and how many places there are

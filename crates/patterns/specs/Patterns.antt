@@ -1,8 +1,8 @@
--- What bit patterns and numbers stand for where C calls. Rests on the definitions of `helpers`. Assumes nothing.
+-- What bit patterns and numbers stand for where C calls. Rests on the definitions of `point`. Assumes nothing.
 use Prim.Native.Nat.{ℕ}
 use mathlib.Core.Bool.{Bool, cond}
-use Rattle.helpers.specs.declared.point.Segment.{Segment}
-use Rattle.helpers.specs.Point.{fromBitsOf}
+use Rattle.point.specs.declared.Segment.{Segment}
+use Rattle.point.specs.Point.{fromBitsOf}
 
 -- a segment comes as four bit patterns
 unfoldable pub segmentOf : ℕ → ℕ → ℕ → ℕ → Segment

@@ -2,8 +2,8 @@
 
 ghost use mathlib.Core.Path.{_≡_};
 ghost use Rattle.patterns.specs.Patterns.{segmentOf, truthNumber};
-use helpers::Point;
-use helpers::Segment;
+use point::Point;
+use point::Segment;
 
 // The segment between two points, each coordinate a bit pattern.
 pub fn segment(ax: u32, ay: u32, bx: u32, by: u32) -> Segment

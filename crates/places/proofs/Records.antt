@@ -13,8 +13,8 @@ use Rattle.float.proofs.Tests.{and-true}
 use Rattle.float.proofs.Nan.{eq-no-nan}
 use Rattle.float.proofs.Order.{eq-reflexive, eq-respects-right}
 use Rattle.counts.proofs.Laws.{first-is, first-le, first-before, first-at, first-same}
-use Rattle.helpers.specs.declared.point.Point.{Point}
-use Rattle.helpers.specs.Point.{pointOf, sameOf}
+use Rattle.point.specs.declared.Point.{Point}
+use Rattle.point.specs.Point.{pointOf, sameOf}
 use Rattle.steps.specs.declared.Node.{Node}
 use Rattle.places.specs.Layout.{floatAt, putFloats, recordRoot, recordFor, recordPut, distancePut}
 use Rattle.places.proofs.Rows.{which, puts-other, puts-same, floats-elsewhere}

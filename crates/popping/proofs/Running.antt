@@ -7,8 +7,8 @@ use mathlib.Core.List.{List}
 use borrow.Author.Tests.{eq-eqb, ne-eqb}
 use lib.Dec.{eqb}
 use lib.ListN.{length}
-use Rattle.helpers.specs.declared.point.Point.{Point}
-use Rattle.helpers.specs.Point.{sameOf}
+use Rattle.point.specs.declared.Point.{Point}
+use Rattle.point.specs.Point.{sameOf}
 use Rattle.stored.specs.Stored.{Floor, floorOf}
 use Rattle.steps.specs.declared.Node.{Node}
 use Rattle.steps.specs.Steps.{stepsFrom, seedNode}

@@ -9,7 +9,7 @@ use Rattle.floor.specs.declared.Look.{Look}
 use Rattle.floor.specs.declared.Look.the-variants.{Inside, Refused}
 use Rattle.floor.specs.Look.{lookOf}
 use Rattle.stored.specs.Stored.{Floor, Question, floorOf, questionOf}
-use Rattle.helpers.specs.declared.point.Point.{Point}
+use Rattle.point.specs.declared.Point.{Point}
 use Rattle.queue.specs.Queue.{none}
 use Rattle.machine.specs.declared.Task.{Task}
 use Rattle.machine.specs.declared.Finish.the-variants.{Emptied, Filled, Stopped}

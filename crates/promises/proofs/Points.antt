@@ -8,7 +8,7 @@ use lib.Dec.{ltb}
 use lib.Ieee.{Float}
 use lib.ListN.{length, take}
 use Rattle.word.specs.Word.{Bytes}
-use Rattle.helpers.specs.declared.point.Point.{Point}
+use Rattle.point.specs.declared.Point.{Point}
 use Rattle.stored.specs.Stored.{questionOf}
 use Rattle.route.specs.declared.Judged.the-variants.{Accepted}
 use Rattle.route.specs.Record.{recordAt, endBytes}

@@ -9,7 +9,7 @@ use lib.Dec.{eqb, ltb}
 use lib.Ieee.{Float}
 use lib.ListN.{length}
 use lib.Seq.{sets}
-use Rattle.helpers.specs.declared.point.Point.{Point}
+use Rattle.point.specs.declared.Point.{Point}
 use Rattle.floor.specs.declared.Refusal.{Refusal}
 use Rattle.floor.specs.declared.Look.the-variants.{Inside, Refused}
 use Rattle.floor.specs.Look.{lookOf}

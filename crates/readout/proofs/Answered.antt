@@ -6,7 +6,7 @@ use borrow.Author.Tests.{lt-ltb, le-ltb}
 use lib.Ieee.{Float}
 use lib.ListN.{length}
 use lib.Seq.{sets}
-use Rattle.helpers.specs.declared.point.Point.{Point}
+use Rattle.point.specs.declared.Point.{Point}
 use Rattle.floor.specs.declared.Refusal.{Refusal}
 use Rattle.floor.specs.declared.Look.the-variants.{Inside, Refused as LookRefused}
 use Rattle.stored.specs.Stored.{Floor, floorOf, questionOf}

@@ -11,10 +11,10 @@ use lib.Seq.{take-at, take-take, drop-drop, take-add}
 use Rattle.word.specs.Word.{littleEndian, bytesOf, wordAt}
 use Rattle.word.proofs.Runs.{length-part}
 use Rattle.word.proofs.Bytes.{length-bytesOf, littleEndian-bytesOf}
-use Rattle.helpers.specs.declared.point.Point.{Point}
+use Rattle.point.specs.declared.Point.{Point}
 use Rattle.helpers.specs.declared.Turn.{Turn}
 use Rattle.helpers.specs.declared.Turn.the-variants.{Around, Straight}
-use Rattle.helpers.specs.Point.{sameOf}
+use Rattle.point.specs.Point.{sameOf}
 use Rattle.helpers.specs.Helpers.{turningPointOf}
 use Rattle.stored.specs.Stored.{Floor}
 use Rattle.route.specs.declared.Step.{Step}

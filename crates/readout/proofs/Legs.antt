@@ -12,9 +12,9 @@ use lib.IntN.{ℤ, pos}
 use lib.Ieee.{Float, nan, inf, fin, binary32, up, down, odd, units, round, sum, add, neg, sub, mul, eq, fits, low, prec, emax, size, nearest}
 use Rattle.float.proofs.Tests.{and-true}
 use Rattle.float.proofs.Order.{eq-same}
-use Rattle.helpers.specs.declared.point.Point.{Point}
-use Rattle.helpers.specs.Point.{sameOf, minusOf, dotOf, distanceOf}
-use Rattle.helpers.specs.Point.{lengthOf as pointLength}
+use Rattle.point.specs.declared.Point.{Point}
+use Rattle.point.specs.Point.{sameOf, minusOf, dotOf, distanceOf}
+use Rattle.point.specs.Point.{lengthOf as pointLength}
 use Rattle.route.specs.Step.{HeldPoint}
 use Rattle.readout.specs.Points.{lengthFrom}
 

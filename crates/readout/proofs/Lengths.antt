@@ -9,10 +9,10 @@ use lib.Ieee.Bits.{ofBits-fits}
 use lib.Ieee.Fits.{add-fits}
 use lib.ListN.{length}
 use Rattle.word.specs.Word.{Bytes}
-use Rattle.helpers.specs.declared.point.Point.{Point}
+use Rattle.point.specs.declared.Point.{Point}
 use Rattle.helpers.specs.declared.Turn.{Turn}
 use Rattle.helpers.specs.declared.Turn.the-variants.{Around, Straight}
-use Rattle.helpers.specs.Point.{pointOf, fromBitsOf, sameOf, plusOf, distanceOf}
+use Rattle.point.specs.Point.{pointOf, fromBitsOf, sameOf, plusOf, distanceOf}
 use Rattle.helpers.specs.Helpers.{turningPointOf}
 use Rattle.walk.specs.declared.SuccessorType.{SuccessorType}
 use Rattle.walk.specs.declared.SuccessorType.the-variants.{LeftNonObservable, Observable, RightNonObservable}

@@ -8,7 +8,7 @@ use mathlib.Core.List.{List, [], _∷_}
 use lib.Ieee.{Float}
 use lib.ListN.{length, set, length-set}
 use lib.Seq.{sets}
-use Rattle.helpers.specs.declared.point.Point.{Point}
+use Rattle.point.specs.declared.Point.{Point}
 use Rattle.helpers.specs.declared.Turn.{Turn}
 use Rattle.helpers.specs.declared.Turn.the-variants.{Around, Straight}
 use Rattle.helpers.specs.Helpers.{turningPointOf}

@@ -4,10 +4,10 @@ use Prim.Native.Nat.{ℕ, zero, suc, _+_, _-_}
 use mathlib.Core.Bool.{cond}
 use mathlib.Core.List.{List, [], _∷_}
 use lib.Ieee.{Float, binary32, add}
-use Rattle.helpers.specs.declared.point.Point.{Point}
+use Rattle.point.specs.declared.Point.{Point}
 use Rattle.helpers.specs.declared.Turn.{Turn}
 use Rattle.helpers.specs.declared.Turn.the-variants.{Around, Straight}
-use Rattle.helpers.specs.Point.{zero as zeroFloat, sameOf, distanceOf}
+use Rattle.point.specs.Point.{zero as zeroFloat, sameOf, distanceOf}
 use Rattle.helpers.specs.Helpers.{turningPointOf}
 use Rattle.route.specs.declared.Step.{Step}
 use Rattle.route.specs.declared.Sought.{Sought}

@@ -7,8 +7,8 @@ use lib.Dec.{ltb}
 use lib.Ieee.{Float}
 use lib.ListN.{length, set}
 use lib.Seq.{sets}
-use Rattle.helpers.specs.declared.point.Point.{Point}
-use Rattle.helpers.specs.Point.{sameOf}
+use Rattle.point.specs.declared.Point.{Point}
+use Rattle.point.specs.Point.{sameOf}
 use Rattle.stored.specs.Stored.{floorOf, questionOf}
 use Rattle.route.specs.declared.Judged.the-variants.{Accepted, Length, NotSeed, NotStep, NotEnd}
 use Rattle.steps.specs.declared.Node.{Node}

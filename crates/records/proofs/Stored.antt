@@ -19,7 +19,7 @@ use Rattle.word.proofs.Bytes.{bytes-take, bytes-drop, length-bytesOf, littleEnd
 use Rattle.word.proofs.Runs.{apart-sets, sets-at, length-part}
 use Rattle.route.specs.Record.{wordsBytes, seedBytes, stepBytes, endBytes, recordAt, putRecord}
 use Rattle.records.specs.Records.{recordBytes, seedRecord, stepRecord, endRecord}
-use Rattle.helpers.specs.declared.point.Point.{Point}
+use Rattle.point.specs.declared.Point.{Point}
 use Rattle.route.specs.declared.Step.{Step}
 use Rattle.records.specs.declared.Record.{Record}
 use Rattle.route.specs.Judge.{sameBytes}

@@ -2,7 +2,7 @@
 use Prim.Native.Nat.{ℕ}
 use mathlib.Core.List.{List}
 use lib.Ieee.{Float}
-use Rattle.helpers.specs.declared.point.Point.{Point}
+use Rattle.point.specs.declared.Point.{Point}
 use Rattle.route.specs.declared.Step.{Step}
 use Rattle.route.specs.Record.{wordsBytes, seedWords, stepWords, endWords}
 use Rattle.records.specs.declared.Record.{Record}

@@ -6,7 +6,7 @@ ghost use lib.ListN.{length};
 ghost use Rattle.route.specs.Record.{recordAt, putRecord};
 ghost use Rattle.route.specs.Judge.{sameBytes, lengthRight};
 ghost use Rattle.records.specs.Records.{recordBytes, seedRecord, stepRecord, endRecord};
-use helpers::Point;
+use point::Point;
 use route::Step;
 use route::kind_number;
 

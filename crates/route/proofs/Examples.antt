@@ -9,7 +9,7 @@ use lib.Ieee.{binary32, ofBits, toBits}
 use lib.Ieee.Bits.{ofBits-fits}
 use Rattle.float.proofs.Tests.{untrue}
 use Rattle.word.specs.Word.{bytesOf}
-use Rattle.helpers.specs.declared.point.Point.{Point}
+use Rattle.point.specs.declared.Point.{Point}
 use Rattle.walk.specs.declared.SuccessorType.the-variants.{Observable}
 use Rattle.route.specs.declared.Step.{Step}
 use Rattle.route.specs.declared.Judged.the-variants.{Accepted, Length, NotSeed, NotStep, NotEnd}

@@ -6,7 +6,7 @@ use lib.Ieee.{Float, binary32, toBits}
 use lib.ListN.{length, take, drop}
 use lib.Seq.{sets}
 use Rattle.word.specs.Word.{bytesOf}
-use Rattle.helpers.specs.declared.point.Point.{Point}
+use Rattle.point.specs.declared.Point.{Point}
 use Rattle.route.specs.declared.Step.{Step}
 use Rattle.route.specs.Step.{kindNumber}
 

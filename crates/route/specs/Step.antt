@@ -2,7 +2,7 @@
 use Prim.Native.Nat.{ℕ, _<_, _^_}
 use lib.Dec.{T}
 use lib.Ieee.{binary32, fits}
-use Rattle.helpers.specs.declared.point.Point.{Point}
+use Rattle.point.specs.declared.Point.{Point}
 use Rattle.walk.specs.declared.SuccessorType.{SuccessorType}
 use Rattle.walk.specs.declared.SuccessorType.the-variants.{LeftNonObservable, Observable, RightNonObservable}
 use Rattle.route.specs.declared.Step.{Step}

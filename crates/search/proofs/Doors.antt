@@ -10,8 +10,8 @@ use lib.Ieee.{Float, isNan, le, neg}
 use lib.ListN.{length}
 use Rattle.float.proofs.Tests.{and-true}
 use Rattle.float.proofs.Nan.{le-no-nan}
-use Rattle.helpers.specs.declared.point.Point.{Point}
-use Rattle.helpers.specs.Point.{limit, sameOf}
+use Rattle.point.specs.declared.Point.{Point}
+use Rattle.point.specs.Point.{limit, sameOf}
 use Rattle.floor.specs.declared.Refusal.{Refusal}
 use Rattle.floor.specs.declared.Refusal.the-variants as refusal
 use Rattle.floor.specs.declared.FloorLook.{FloorLook}

@@ -3,8 +3,9 @@ use mathlib.Core.Path.{refl}
 use lib.Ieee.{add, sub, mul, div, neg, lt, le, eq, ofBits, toBits, odd, size, round}
 use Rattle.float.specs.Units.{unitsOf}
 use Rattle.root.specs.Root.{rootOf, roundedRoot, dropped, nearestRoot, wholeRoot}
-use Rattle.helpers.specs.Point.{pointOf, fromBitsOf, minusOf, plusOf, timesOf, sameOf, endsAtOf, dotOf, perpDotOf, lengthOf, distanceOf, projectOntoOf}
-use Rattle.helpers.specs.Helpers.{magnitudeOf, sideOf, sameSideOf, mirrorOf, intersectionTimeOf, crossesOf, clampOf, lineIntersectSegmentOf, goalBeyondOf, heuristicOf, turningPointOf}
+use Rattle.point.specs.Point.{pointOf, fromBitsOf, minusOf, plusOf, timesOf, sameOf, endsAtOf, dotOf, perpDotOf, lengthOf, distanceOf, projectOntoOf}
+use Rattle.point.specs.Sides.{magnitudeOf, sideOf, sameSideOf, mirrorOf}
+use Rattle.helpers.specs.Helpers.{intersectionTimeOf, crossesOf, clampOf, lineIntersectSegmentOf, goalBeyondOf, heuristicOf, turningPointOf}
 use Rattle.cone.specs.Cone.{rayOf, coneOf, hasShortRayOf, fromRightOf, fromLeftOf, bothOutsideOf, fractionOf, raisedOf, loweredOf, cutOf, partInsideOf, partOf, clipOf, clipToConeOf}
 use Rattle.starred.specs.Examples.{table, Every}
 

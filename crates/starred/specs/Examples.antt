@@ -4,16 +4,17 @@ use Prim.Native.Nat.{ℕ}
 use mathlib.Core.Path.{_≡_}
 use mathlib.Core.List.{List, [], _∷_}
 use lib.Ieee.{Float, binary32, ofBits, toBits}
-use Rattle.helpers.specs.declared.point.Point.{Point}
-use Rattle.helpers.specs.declared.point.Segment.{Segment}
-use Rattle.helpers.specs.declared.EdgeSide.{EdgeSide}
-use Rattle.helpers.specs.declared.EdgeSide.the-variants.{Left, Right, Edge}
+use Rattle.point.specs.declared.Point.{Point}
+use Rattle.point.specs.declared.Segment.{Segment}
+use Rattle.point.specs.declared.EdgeSide.{EdgeSide}
+use Rattle.point.specs.declared.EdgeSide.the-variants.{Left, Right, Edge}
 use Rattle.helpers.specs.declared.Crossing.{Crossing}
 use Rattle.helpers.specs.declared.Crossing.the-variants.{At, Nowhere}
 use Rattle.helpers.specs.declared.Turn.{Turn}
 use Rattle.helpers.specs.declared.Turn.the-variants.{Around, Straight}
-use Rattle.helpers.specs.Point.{fromBitsOf}
-use Rattle.helpers.specs.Helpers.{sideOf, intersectionTimeOf, lineIntersectSegmentOf, heuristicOf, turningPointOf}
+use Rattle.point.specs.Point.{fromBitsOf}
+use Rattle.point.specs.Sides.{sideOf}
+use Rattle.helpers.specs.Helpers.{intersectionTimeOf, lineIntersectSegmentOf, heuristicOf, turningPointOf}
 use Rattle.cone.specs.declared.Clipped.{Clipped}
 use Rattle.cone.specs.declared.Clipped.the-variants.{Seen, Nothing}
 use Rattle.cone.specs.Cone.{clipToConeOf}

@@ -7,9 +7,9 @@ use mathlib.Core.Logic.{inl, inr}
 use lib.Ieee.{binary32, nan, lt}
 use lib.Ieee.Fits.{add-fits, nan-fits}
 use Rattle.counts.specs.Counts.{table}
-use Rattle.helpers.specs.declared.point.Point.{Point}
-use Rattle.helpers.specs.declared.point.Segment.{Segment}
-use Rattle.helpers.specs.Point.{slack, pointOf, plusOf, sameOf}
+use Rattle.point.specs.declared.Point.{Point}
+use Rattle.point.specs.declared.Segment.{Segment}
+use Rattle.point.specs.Point.{slack, pointOf, plusOf, sameOf}
 use Rattle.cone.specs.declared.Clipped.the-variants.{Seen}
 use Rattle.cone.specs.Cone.{clipToConeOf}
 use Rattle.cone.proofs.Clip.{rightLength, leftLength, clip-short-ray, clip-ends}

@@ -4,10 +4,10 @@ use Prim.Native.Nat.{ℕ, _+_}
 use mathlib.Core.Bool.{Bool, cond}
 use lib.Dec.{eqb}
 use lib.Ieee.{binary32, add}
-use Rattle.helpers.specs.declared.point.Point.{Point}
+use Rattle.point.specs.declared.Point.{Point}
 use Rattle.helpers.specs.declared.Turn.{Turn}
 use Rattle.helpers.specs.declared.Turn.the-variants.{Around, Straight}
-use Rattle.helpers.specs.Point.{distanceOf}
+use Rattle.point.specs.Point.{distanceOf}
 use Rattle.helpers.specs.Helpers.{turningPointOf}
 use Rattle.stored.specs.Stored.{Floor, Question}
 use Rattle.floor.specs.Where.{polygonOf}

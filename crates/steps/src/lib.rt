@@ -6,9 +6,9 @@ ghost use lib.ListN.{length};
 ghost use Rattle.stored.specs.Stored.{floorOf};
 ghost use Rattle.steps.specs.Steps.{seedNode, rootAfter, enter};
 ghost use Rattle.steps.specs.World.{endingOf};
-use helpers::Point;
-use helpers::Segment;
 use helpers::Turn;
+use point::Point;
+use point::Segment;
 use route::Step;
 use walk::SuccessorType;
 

@@ -4,7 +4,7 @@ use mathlib.Core.Bool.{Bool, true, false, _&&_, cond}
 use mathlib.Core.List.{List}
 use lib.Dec.{eqb, ltb}
 use lib.ListN.{length, getD}
-use Rattle.helpers.specs.Point.{zero, fromBitsOf}
+use Rattle.point.specs.Point.{zero, fromBitsOf}
 use Rattle.floor.specs.declared.FloorLook.{FloorLook}
 use Rattle.floor.specs.declared.FloorLook.the-variants.{Accepted, Faulty}
 use Rattle.stored.specs.Stored.{Floor, Polygon, floorOf, cornerCount, polygon}

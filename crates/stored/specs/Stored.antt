@@ -7,9 +7,9 @@ use lib.Dec.{ltb, eqb}
 use lib.ListN.{length, getD}
 use Rattle.counts.specs.Counts.{first, table}
 use Rattle.word.specs.Word.{wordAt}
-use Rattle.helpers.specs.declared.point.Point.{Point}
-use Rattle.helpers.specs.declared.point.Segment.{Segment}
-use Rattle.helpers.specs.Point.{zero, pointOf, fromBitsOf, plusOf}
+use Rattle.point.specs.declared.Point.{Point}
+use Rattle.point.specs.declared.Segment.{Segment}
+use Rattle.point.specs.Point.{zero, pointOf, fromBitsOf, plusOf}
 
 -- "Unused slots hold 0xFFFFFFFF", and it stands for a wall in a neighbour's slot: the number of no vertex and of no polygon.
 abbrev pub unused : ℕ

@@ -4,9 +4,9 @@ ghost use mathlib.Core.Path.{_≡_};
 ghost use Prim.Native.Nat.{_+_, _*_, _/_, _≤_, _<_};
 ghost use mathlib.Core.Bool.{cond};
 ghost use lib.ListN.{length};
-ghost use Rattle.helpers.specs.Point.{plusOf};
+ghost use Rattle.point.specs.Point.{plusOf};
 ghost use Rattle.stored.specs.Stored.{unused, origin, vertexAt, slotAt, polygonAt, questionOf, corner, neighbour, cornerCount, cornerAfter};
-use helpers::Point;
+use point::Point;
 
 // No vertex and no polygon has this number: an unused slot, or a wall.
 pub const UNUSED: u32 = 0xFFFF_FFFF;

@@ -4,11 +4,11 @@
 ghost use Prim.Native.Nat.{_≤_};
 use cone::Clipped;
 use helpers::Crossing;
-use helpers::EdgeSide;
-use helpers::Point;
-use helpers::Segment;
 use helpers::Turn;
 use libc::STDOUT_FILENO;
+use point::EdgeSide;
+use point::Point;
+use point::Segment;
 
 const COUNT: usize = 51;
 

@@ -6,8 +6,8 @@ use mathlib.Core.List.{List}
 use Rattle.stored.specs.Stored.{Floor, polygon}
 use Rattle.floor.specs.Where.{isTurn, isMarked, marksOf}
 use Rattle.floor.proofs.Turned.{marks-turn}
-use Rattle.helpers.specs.declared.point.Segment.{Segment}
-use Rattle.helpers.specs.Point.{sameOf}
+use Rattle.point.specs.declared.Segment.{Segment}
+use Rattle.point.specs.Point.{sameOf}
 use Rattle.cone.specs.declared.Clipped.{Clipped}
 use Rattle.cone.specs.declared.Clipped.the-variants.{Seen}
 use Rattle.cone.specs.Cone.{clipToConeOf}

@@ -1,8 +1,8 @@
 -- The arm of a definition that a match leads to: what a return is proved from. Assumes nothing.
 use mathlib.Core.Path.{_≡_, sym, _∙_}
-use Rattle.helpers.specs.declared.point.Point.{Point}
-use Rattle.helpers.specs.declared.EdgeSide.{EdgeSide}
-use Rattle.helpers.specs.declared.EdgeSide.the-variants.{Left, Right, Edge}
+use Rattle.point.specs.declared.Point.{Point}
+use Rattle.point.specs.declared.EdgeSide.{EdgeSide}
+use Rattle.point.specs.declared.EdgeSide.the-variants.{Left, Right, Edge}
 use Rattle.helpers.specs.declared.Crossing.{Crossing}
 use Rattle.helpers.specs.declared.Crossing.the-variants.{At, Nowhere}
 

@@ -1,8 +1,8 @@
 -- The parts that a cut makes of an edge, and those where there is none: what a return of the walk is proved from. Rests on specs/Walk. Assumes nothing.
 use mathlib.Core.Path.{_≡_}
 use mathlib.Core.List.{_∷_}
-use Rattle.helpers.specs.declared.point.Point.{Point}
-use Rattle.helpers.specs.declared.point.Segment.{Segment}
+use Rattle.point.specs.declared.Point.{Point}
+use Rattle.point.specs.declared.Segment.{Segment}
 use Rattle.helpers.specs.declared.Crossing.the-variants.{At, Nowhere}
 use Rattle.walk.specs.declared.SuccessorType.{SuccessorType}
 use Rattle.walk.specs.declared.Part.{Part}

@@ -1,13 +1,14 @@
 -- Every end of a part of an edge is an end of the edge or a sum of points: what holds of these holds of it. Assumes nothing.
 use mathlib.Core.Bool.{Bool, true, false, cond}
-use Rattle.helpers.specs.declared.point.Point.{Point}
-use Rattle.helpers.specs.declared.point.Segment.{Segment}
-use Rattle.helpers.specs.declared.EdgeSide.{EdgeSide}
-use Rattle.helpers.specs.declared.EdgeSide.the-variants.{Left, Right, Edge}
+use Rattle.point.specs.declared.Point.{Point}
+use Rattle.point.specs.declared.Segment.{Segment}
+use Rattle.point.specs.declared.EdgeSide.{EdgeSide}
+use Rattle.point.specs.declared.EdgeSide.the-variants.{Left, Right, Edge}
 use Rattle.helpers.specs.declared.Crossing.{Crossing}
 use Rattle.helpers.specs.declared.Crossing.the-variants.{At, Nowhere}
-use Rattle.helpers.specs.Point.{plusOf, minusOf, timesOf}
-use Rattle.helpers.specs.Helpers.{sideOf, crossesOf, clampOf, intersectionTimeOf, lineIntersectSegmentOf}
+use Rattle.point.specs.Point.{plusOf, minusOf, timesOf}
+use Rattle.point.specs.Sides.{sideOf}
+use Rattle.helpers.specs.Helpers.{crossesOf, clampOf, intersectionTimeOf, lineIntersectSegmentOf}
 use Rattle.walk.specs.declared.SuccessorType.{SuccessorType}
 use Rattle.walk.specs.declared.Part.{Part}
 use Rattle.walk.specs.declared.cut.Cut.{Cut}

@@ -3,9 +3,10 @@ use Prim.Native.Nat.{ℕ}
 use mathlib.Core.Path.{_≡_, refl}
 use mathlib.Core.List.{[], _∷_}
 use lib.Ieee.{add, sub, mul, div, neg, lt, le, ofBits, odd, size, round}
-use Rattle.helpers.specs.declared.point.Segment.{Segment}
-use Rattle.helpers.specs.Point.{pointOf, fromBitsOf, minusOf, plusOf, timesOf, dotOf, perpDotOf, distanceSquaredOf}
-use Rattle.helpers.specs.Helpers.{magnitudeOf, sideOf, intersectionTimeOf, crossesOf, clampOf, lineIntersectSegmentOf}
+use Rattle.point.specs.declared.Segment.{Segment}
+use Rattle.point.specs.Point.{pointOf, fromBitsOf, minusOf, plusOf, timesOf, dotOf, perpDotOf, distanceSquaredOf}
+use Rattle.point.specs.Sides.{magnitudeOf, sideOf}
+use Rattle.helpers.specs.Helpers.{intersectionTimeOf, crossesOf, clampOf, lineIntersectSegmentOf}
 use Rattle.walk.specs.declared.SuccessorType.the-variants.{LeftNonObservable, Observable, RightNonObservable}
 use Rattle.walk.specs.Walk.{toldApartOf, apartFromBothOf, cutIfOf, seenIfOf, nowhereOf, firstCrossingOf, seenFromRightOf, unlessRightOf, firstCutOf, secondCutOf, partOf, restOf, walkEdgeOf}
 use Rattle.walk.specs.Round.{wrapped, cornerOf, edgeOf, afterEntry, edgesFrom, others, walkOf, successorsOf}

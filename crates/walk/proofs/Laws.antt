@@ -10,8 +10,8 @@ use borrow.Author.Tests.{ltb-true, ltb-false}
 use lib.Dec.{ltb}
 use lib.ListN.{length, getD, length-append, length-map}
 use lib.Seq.{getD-take}
-use Rattle.helpers.specs.declared.point.Point.{Point}
-use Rattle.helpers.specs.declared.point.Segment.{Segment}
+use Rattle.point.specs.declared.Point.{Point}
+use Rattle.point.specs.declared.Segment.{Segment}
 use Rattle.helpers.specs.declared.Crossing.{Crossing}
 use Rattle.helpers.specs.declared.Crossing.the-variants.{At, Nowhere}
 use Rattle.walk.specs.declared.SuccessorType.{SuccessorType}

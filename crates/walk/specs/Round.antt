@@ -6,9 +6,9 @@ use mathlib.Core.List.{List, [], _∷_, _++_, map}
 use lib.Dec.{ltb}
 use lib.Ieee.{nan}
 use lib.ListN.{length, getD}
-use Rattle.helpers.specs.declared.point.Point.{Point}
-use Rattle.helpers.specs.declared.point.Segment.{Segment}
-use Rattle.helpers.specs.Point.{pointOf}
+use Rattle.point.specs.declared.Point.{Point}
+use Rattle.point.specs.declared.Segment.{Segment}
+use Rattle.point.specs.Point.{pointOf}
 use Rattle.walk.specs.declared.SuccessorType.{SuccessorType}
 use Rattle.walk.specs.declared.SuccessorType.the-variants.{RightNonObservable}
 use Rattle.walk.specs.declared.Part.{Part}

@@ -1,5 +1,5 @@
 -- One edge of the walk, as document 01 has it under "The walk" and edges_between of polyanya's src/instance.rs has it in its lines, which stand above what
--- renders them. Rests on the definitions of `helpers`. Assumes nothing.
+-- renders them. Rests on the definitions of `point` and `helpers`. Assumes nothing.
 -- The kinds are the Rust's `SuccessorType`, a part is its `Successor` without the edge. The contract of a function cites the definition of its name with `Of`
 -- behind it; `nowhereOf` is for `Cut::nowhere`, `partOf` for `Part::new`.
 use Prim.Native.Nat.{ℕ}
@@ -7,14 +7,15 @@ use mathlib.Core.Bool.{Bool, cond, _&&_}
 use mathlib.Core.List.{List, [], _∷_, _++_}
 use lib.Ieee.{nan, lt}
 use lib.ListN.{getD, take}
-use Rattle.helpers.specs.declared.point.Point.{Point}
-use Rattle.helpers.specs.declared.point.Segment.{Segment}
-use Rattle.helpers.specs.declared.EdgeSide.{EdgeSide}
-use Rattle.helpers.specs.declared.EdgeSide.the-variants.{Left, Right, Edge}
+use Rattle.point.specs.declared.Point.{Point}
+use Rattle.point.specs.declared.Segment.{Segment}
+use Rattle.point.specs.declared.EdgeSide.{EdgeSide}
+use Rattle.point.specs.declared.EdgeSide.the-variants.{Left, Right, Edge}
 use Rattle.helpers.specs.declared.Crossing.{Crossing}
 use Rattle.helpers.specs.declared.Crossing.the-variants.{At, Nowhere}
-use Rattle.helpers.specs.Point.{apart, distanceSquaredOf}
-use Rattle.helpers.specs.Helpers.{sideOf, lineIntersectSegmentOf}
+use Rattle.point.specs.Point.{apart, distanceSquaredOf}
+use Rattle.point.specs.Sides.{sideOf}
+use Rattle.helpers.specs.Helpers.{lineIntersectSegmentOf}
 use Rattle.walk.specs.declared.SuccessorType.{SuccessorType}
 use Rattle.walk.specs.declared.SuccessorType.the-variants.{LeftNonObservable, Observable, RightNonObservable}
 use Rattle.walk.specs.declared.Part.{Part}

@@ -4,9 +4,9 @@ ghost use mathlib.Core.Path.{_≡_};
 ghost use Rattle.walk.specs.Walk.{toldApartOf, apartFromBothOf, cutIfOf, seenIfOf, nowhereOf, firstCrossingOf, seenFromRightOf, unlessRightOf, firstCutOf, secondCutOf};
 use crate::SuccessorType;
 use helpers::Crossing;
-use helpers::EdgeSide;
-use helpers::Point;
-use helpers::Segment;
+use point::EdgeSide;
+use point::Point;
+use point::Segment;
 
 // Where a ray cuts an edge, if it does, and the kind from there on.
 pub struct Cut {

@@ -5,8 +5,8 @@ ghost use mathlib.Core.Path.{_≡_};
 ghost use mathlib.Core.List.{_∷_};
 ghost use Rattle.walk.specs.Walk.{partOf, oneOf, twoOf, threeOf, walkedOf, held, restOf, walkEdgeOf};
 use helpers::Crossing;
-use helpers::Point;
-use helpers::Segment;
+use point::Point;
+use point::Segment;
 
 mod cut;
 mod round;

@@ -6,8 +6,8 @@ use lib.Dec.{eqb}
 use lib.Ieee.{binary32, toBits}
 use lib.ListN.{length, set}
 use lib.Seq.{sets}
-use Rattle.helpers.specs.declared.point.Point.{Point}
-use Rattle.helpers.specs.declared.point.Segment.{Segment}
+use Rattle.point.specs.declared.Point.{Point}
+use Rattle.point.specs.declared.Segment.{Segment}
 use Rattle.walk.specs.declared.SuccessorType.{SuccessorType}
 use Rattle.walk.specs.declared.SuccessorType.the-variants.{LeftNonObservable, Observable, RightNonObservable}
 use Rattle.walk.specs.declared.Part.{Part}

@@ -4,11 +4,11 @@ ghost use mathlib.Core.Path.{_≡_};
 ghost use Prim.Native.Nat.{_*_, _<_, _≤_};
 ghost use lib.ListN.{set};
 ghost use lib.Seq.{sets};
-ghost use Rattle.helpers.specs.Point.{fromBitsOf};
+ghost use Rattle.point.specs.Point.{fromBitsOf};
 ghost use Rattle.patterns.specs.Patterns.{segmentOf};
 ghost use Rattle.walk_c.specs.Walk.{kindNumber, kindAskedOf, partWords, partsWritten, walkNumber, walkWritten};
-use helpers::Point;
 use patterns::segment;
+use point::Point;
 use walk::Part;
 use walk::SuccessorType;
 

@@ -12,7 +12,8 @@ use Rattle.word.specs.Word as Word
 use Rattle.float.specs.Units as Units
 use Rattle.root.specs.Root as Root
 use Rattle.helpers.specs.Helpers as Helpers
-use Rattle.helpers.specs.Point as Point
+use Rattle.point.specs.Point as Point
+use Rattle.point.specs.Sides as Sides
 use Rattle.floor.specs.Look as Look
 use Rattle.stored.specs.Stored as Stored
 use Rattle.faults.specs.Tests as Tests
@@ -84,5 +85,5 @@ room = replicate 128 7
 pub whole-example : (Whole.searchOf 8 vertices polygons question 4096 lent room .answer ≡ Found 1 96)
     × (Whole.searchOf 8 vertices polygons question 4096 lent room .out ≡ route ++ replicate 32 7)
     × (Verdict.verdictOf 8 vertices polygons question route ≡ Read Accepted)
-unfolding vertices polygons question route lent room Counts.every Counts.first Counts.some Counts.table Word.bytesOf Word.littleEndian Word.wordAt Units.unitsOf Root.dropped Root.nearestRoot Root.rootOf Root.roundedRoot Root.wholeRoot Helpers.betweenOf Helpers.clampOf Helpers.crossesOf Helpers.goalBeyondOf Helpers.heuristicOf Helpers.intersectionTimeOf Helpers.lineIntersectSegmentOf Helpers.magnitudeOf Helpers.maxOf Helpers.minOf Helpers.mirrorOf Helpers.sameSideOf Helpers.sideOf Helpers.turningPointOf Point.distanceOf Point.distanceSquaredOf Point.dotOf Point.endsAtOf Point.fromBitsOf Point.lengthOf Point.minusOf Point.perpDotOf Point.plusOf Point.pointOf Point.projectOntoOf Point.sameOf Point.timesOf Look.askOf Look.badCorners Look.badLinks Look.badVertex Look.floorLookOf Look.lookOf Stored.corner Stored.cornerAfter Stored.cornerCount Stored.edge Stored.floorOf Stored.isListed Stored.neighbour Stored.polygon Stored.polygonAt Stored.questionOf Stored.slotAt Stored.vertex Stored.vertexAt Tests.coordinateRight Tests.cornersListed Tests.cornersRight Tests.distinct Tests.isBack Tests.lengthRight Tests.linkRight Tests.linksRight Tests.namesBack Tests.pointRight Tests.questionRight Tests.restUnused Tests.unlikeEarlier Where.contains Where.isTurn Where.polygonOf Where.turnsAt Judge.findStep Judge.judgeEnd Judge.judgeFrom Judge.judgeOf Judge.lengthRight Judge.onwards Judge.sameBytes Record.endBytes Record.endWords Record.recordAt Record.records Record.seedBytes Record.seedWords Record.stepBytes Record.stepWords Record.wordsBytes Step.kindNumber Steps.candidates Steps.clipped Steps.enter Steps.entryOf Steps.isAllowed Steps.isFinite Steps.isInterval Steps.placeOf Steps.rootAfter Steps.seedNode Steps.stepOf Steps.stepsFrom Steps.stepsOver Steps.successorsIn Steps.wholeEdge Steps.wholeEdges World.endingOf World.isInGoal World.worldIn Queue.before Queue.better Queue.leastBelow Queue.leastOf Queue.ownOf Queue.wordAt Words.cleared Words.climbed Words.column Words.placed Words.queuedIn Words.repaired Verdict.verdictOf Layout.depthIn Layout.distancePut Layout.floatAt Layout.intervalIn Layout.kindOf Layout.nodeIn Layout.numberIn Layout.parentIn Layout.placesIn Layout.putFloats Layout.putWords Layout.puts Layout.recordDistance Layout.recordFor Layout.recordPut Layout.recordRoot Layout.stepIn Layout.wordAt Search.beatenIn Search.begun Search.counted Search.kept Search.made Search.madeAll Search.originAt Search.placed Search.planted Search.popped Search.queued Search.recorded Search.run Search.searchedFrom Search.seedOrigin Search.step Search.taken Search.tookPlace Search.tookRecord Search.visited Whole.betweenOf Told.chainBytes Told.endAfter Told.routeBytes Whole.routed Whole.searchOf Told.straightBytes Told.told Told.written add sub mul div neg lt le eq ofBits toBits odd size isNan
+unfolding vertices polygons question route lent room Counts.every Counts.first Counts.some Counts.table Word.bytesOf Word.littleEndian Word.wordAt Units.unitsOf Root.dropped Root.nearestRoot Root.rootOf Root.roundedRoot Root.wholeRoot Sides.betweenOf Helpers.clampOf Helpers.crossesOf Helpers.goalBeyondOf Helpers.heuristicOf Helpers.intersectionTimeOf Helpers.lineIntersectSegmentOf Sides.magnitudeOf Sides.maxOf Sides.minOf Sides.mirrorOf Sides.sameSideOf Sides.sideOf Helpers.turningPointOf Point.distanceOf Point.distanceSquaredOf Point.dotOf Point.endsAtOf Point.fromBitsOf Point.lengthOf Point.minusOf Point.perpDotOf Point.plusOf Point.pointOf Point.projectOntoOf Point.sameOf Point.timesOf Look.askOf Look.badCorners Look.badLinks Look.badVertex Look.floorLookOf Look.lookOf Stored.corner Stored.cornerAfter Stored.cornerCount Stored.edge Stored.floorOf Stored.isListed Stored.neighbour Stored.polygon Stored.polygonAt Stored.questionOf Stored.slotAt Stored.vertex Stored.vertexAt Tests.coordinateRight Tests.cornersListed Tests.cornersRight Tests.distinct Tests.isBack Tests.lengthRight Tests.linkRight Tests.linksRight Tests.namesBack Tests.pointRight Tests.questionRight Tests.restUnused Tests.unlikeEarlier Where.contains Where.isTurn Where.polygonOf Where.turnsAt Judge.findStep Judge.judgeEnd Judge.judgeFrom Judge.judgeOf Judge.lengthRight Judge.onwards Judge.sameBytes Record.endBytes Record.endWords Record.recordAt Record.records Record.seedBytes Record.seedWords Record.stepBytes Record.stepWords Record.wordsBytes Step.kindNumber Steps.candidates Steps.clipped Steps.enter Steps.entryOf Steps.isAllowed Steps.isFinite Steps.isInterval Steps.placeOf Steps.rootAfter Steps.seedNode Steps.stepOf Steps.stepsFrom Steps.stepsOver Steps.successorsIn Steps.wholeEdge Steps.wholeEdges World.endingOf World.isInGoal World.worldIn Queue.before Queue.better Queue.leastBelow Queue.leastOf Queue.ownOf Queue.wordAt Words.cleared Words.climbed Words.column Words.placed Words.queuedIn Words.repaired Verdict.verdictOf Layout.depthIn Layout.distancePut Layout.floatAt Layout.intervalIn Layout.kindOf Layout.nodeIn Layout.numberIn Layout.parentIn Layout.placesIn Layout.putFloats Layout.putWords Layout.puts Layout.recordDistance Layout.recordFor Layout.recordPut Layout.recordRoot Layout.stepIn Layout.wordAt Search.beatenIn Search.begun Search.counted Search.kept Search.made Search.madeAll Search.originAt Search.placed Search.planted Search.popped Search.queued Search.recorded Search.run Search.searchedFrom Search.seedOrigin Search.step Search.taken Search.tookPlace Search.tookRecord Search.visited Whole.betweenOf Told.chainBytes Told.endAfter Told.routeBytes Whole.routed Whole.searchOf Told.straightBytes Told.told Told.written add sub mul div neg lt le eq ofBits toBits odd size isNan
 whole-example = (refl, refl, refl)

@@ -8,7 +8,7 @@ use borrow.Author.Tests.{lt-ltb, le-ltb}
 use lib.Ieee.{Float}
 use lib.ListN.{length, take, drop, length-append, length-drop, take-append-drop}
 use lib.Seq.{sets-eq, take-at, drop-at, length-take-le, drop-drop}
-use Rattle.helpers.specs.declared.point.Point.{Point}
+use Rattle.point.specs.declared.Point.{Point}
 use Rattle.records.specs.declared.Record.{Record}
 use Rattle.route.specs.Record.{seedBytes, stepBytes, endBytes, putRecord}
 use Rattle.records.specs.Records.{seedRecord, endRecord, recordBytes}

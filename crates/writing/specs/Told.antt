@@ -4,7 +4,7 @@ use mathlib.Core.Bool.{cond}
 use mathlib.Core.List.{List, _++_}
 use lib.Dec.{ltb}
 use lib.ListN.{length, drop}
-use Rattle.helpers.specs.declared.point.Point.{Point}
+use Rattle.point.specs.declared.Point.{Point}
 use Rattle.route.specs.Record.{seedBytes, stepBytes, endBytes}
 use Rattle.steps.specs.declared.Node.{Node}
 use Rattle.steps.specs.Steps.{seedNode}

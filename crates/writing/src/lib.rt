@@ -13,7 +13,6 @@ ghost use Rattle.writing.specs.Answers.{answerNumber};
 ghost use Rattle.writing.specs.Told.{written, routeBytes, straightBytes, told};
 ghost use Rattle.writing.specs.Writing.{putChain, Lies, Tellable, Tells};
 use floor::Refusal;
-use helpers::Point;
 use machine::Ended;
 use machine::Finish;
 use machine::Task;
@@ -21,6 +20,7 @@ use places::depth_at;
 use places::node_at;
 use places::parent_at;
 use places::step_at;
+use point::Point;
 use records::Record;
 use steps::Node;
 

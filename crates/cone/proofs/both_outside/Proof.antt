@@ -1,7 +1,7 @@
 -- `cone::both_outside` meets its contract: each return is its definition's case, by its tests. Assumes nothing.
 use mathlib.Core.Path.{refl}
 use Rattle.cone.specs.Cone.{bothOutsideOf}
-use Rattle.helpers.proofs.Cases.{and-left, and-taken}
+use Rattle.point.proofs.Cases.{and-left, and-taken}
 use Rattle.cone.proofs.both_outside.Statement.{statement}
 use Rattle.cone.proofs.both_outside.Tie as tie
 

@@ -1,7 +1,7 @@
 -- `cone::lowered` meets its contract: each return is its definition's case, by its tests. Assumes nothing.
 use mathlib.Core.Path.{refl}
 use Rattle.cone.specs.Cone.{loweredOf}
-use Rattle.helpers.proofs.Cases.{left, taken}
+use Rattle.point.proofs.Cases.{left, taken}
 use Rattle.cone.proofs.lowered.Statement.{statement}
 use Rattle.cone.proofs.lowered.Tie as tie
 

@@ -1,7 +1,7 @@
 -- `cone::raised` meets its contract: each return is its definition's case, by its tests. Assumes nothing.
 use mathlib.Core.Path.{refl}
 use Rattle.cone.specs.Cone.{raisedOf}
-use Rattle.helpers.proofs.Cases.{left, taken}
+use Rattle.point.proofs.Cases.{left, taken}
 use Rattle.cone.proofs.raised.Statement.{statement}
 use Rattle.cone.proofs.raised.Tie as tie
 

@@ -1,5 +1,5 @@
 use mathlib.Core.Path.{refl}
-use Rattle.helpers.proofs.Cases.{and-taken}
+use Rattle.point.proofs.Cases.{and-taken}
 use Rattle.faults.specs.Tests.{coordinateRight}
 use Rattle.faults.proofs.coordinate_right.Statement.{statement}
 use Rattle.faults.proofs.coordinate_right.Tie as tie

@@ -1,4 +1,4 @@
-use Rattle.helpers.proofs.Cases.{and-taken}
+use Rattle.point.proofs.Cases.{and-taken}
 use Rattle.stored.proofs.Records.{corner-slots}
 use Rattle.faults.proofs.Rest.{rest-corners}
 use borrow.Author.Needs.{needs}

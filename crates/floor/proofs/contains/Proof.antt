@@ -6,8 +6,8 @@ use mathlib.Core.Path.{_≡_, sym}
 use native.Mathlib.Omega.{arith}
 use Rattle.floor.specs.Where.{contains}
 use mathlib.Core.Bool.{true, false, not}
-use Rattle.helpers.specs.declared.EdgeSide.the-variants.{Right}
-use Rattle.helpers.specs.Helpers.{sideOf, sameSideOf}
+use Rattle.point.specs.declared.EdgeSide.the-variants.{Right}
+use Rattle.point.specs.Sides.{sideOf, sameSideOf}
 use Rattle.stored.specs.Stored.{floorOf, edge}
 use Rattle.stored.proofs.Records.{polygon-is}
 use Rattle.floor.proofs.contains.Statement.{statement}

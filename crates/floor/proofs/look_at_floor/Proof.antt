@@ -1,7 +1,7 @@
 use mathlib.Core.Path.{refl, sym, ap, _∙_}
 use mathlib.Core.Bool.{not}
 use denote.Ref.{now}
-use Rattle.helpers.proofs.Cases.{taken}
+use Rattle.point.proofs.Cases.{taken}
 use native.Mathlib.Omega.{arith}
 use Rattle.faults.proofs.Decided.{length-decided}
 use Rattle.stored.proofs.Records.{vertex-count, polygon-count}

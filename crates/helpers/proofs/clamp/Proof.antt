@@ -1,7 +1,7 @@
 -- `helpers::clamp` meets its contract: each return is its definition's case, by its tests. Assumes nothing.
 use mathlib.Core.Path.{refl}
 use Rattle.helpers.specs.Helpers.{clampOf}
-use Rattle.helpers.proofs.Cases.{left, taken}
+use Rattle.point.proofs.Cases.{left, taken}
 use Rattle.helpers.proofs.clamp.Statement.{statement}
 use Rattle.helpers.proofs.clamp.Tie as tie
 

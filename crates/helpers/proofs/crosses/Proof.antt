@@ -1,7 +1,7 @@
 -- `helpers::crosses` meets its contract: each return is its definition's case, by its tests. Assumes nothing.
 use mathlib.Core.Path.{refl}
 use Rattle.helpers.specs.Helpers.{crossesOf}
-use Rattle.helpers.proofs.Cases.{and-left, and-taken}
+use Rattle.point.proofs.Cases.{and-left, and-taken}
 use Rattle.helpers.proofs.crosses.Statement.{statement}
 use Rattle.helpers.proofs.crosses.Tie as tie
 

@@ -2,7 +2,7 @@
 use borrow.Author.Needs.{needs}
 use mathlib.Core.Path.{refl}
 use Rattle.helpers.specs.Helpers.{goalBeyondOf}
-use Rattle.helpers.proofs.Cases.{left, taken}
+use Rattle.point.proofs.Cases.{left, taken}
 use Rattle.helpers.proofs.goal_beyond.Statement.{statement}
 use Rattle.helpers.proofs.goal_beyond.Tie as tie
 

@@ -1,7 +1,7 @@
 -- `helpers::heuristic` meets its contract: each return is its definition's case, by its tests and by what its callees ensure. Assumes nothing.
 use borrow.Author.Needs.{needs}
 use Rattle.helpers.specs.Helpers.{heuristicOf}
-use Rattle.helpers.proofs.Cases.{left, taken}
+use Rattle.point.proofs.Cases.{left, taken}
 use Rattle.helpers.proofs.heuristic.Statement.{statement}
 use Rattle.helpers.proofs.heuristic.Tie as tie
 

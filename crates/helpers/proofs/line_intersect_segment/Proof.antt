@@ -2,7 +2,7 @@
 use borrow.Author.Needs.{needs}
 use mathlib.Core.Path.{refl}
 use Rattle.helpers.specs.Helpers.{lineIntersectSegmentOf}
-use Rattle.helpers.proofs.Cases.{left, taken}
+use Rattle.point.proofs.Cases.{left, taken}
 use Rattle.helpers.proofs.line_intersect_segment.Statement.{statement}
 use Rattle.helpers.proofs.line_intersect_segment.Tie as tie
 

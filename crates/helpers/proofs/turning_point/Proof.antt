@@ -2,7 +2,7 @@
 use borrow.Author.Needs.{needs}
 use mathlib.Core.Path.{refl}
 use Rattle.helpers.specs.Helpers.{turningPointOf}
-use Rattle.helpers.proofs.Cases.{left, taken}
+use Rattle.point.proofs.Cases.{left, taken}
 use Rattle.helpers.proofs.turning_point.Statement.{statement}
 use Rattle.helpers.proofs.turning_point.Tie as tie
 

@@ -1,7 +1,7 @@
 -- `patterns::truth_number` meets its contract: each return is its definition's case, by its tests. Assumes nothing.
 use mathlib.Core.Path.{refl}
 use Rattle.patterns.specs.Patterns.{truthNumber}
-use Rattle.helpers.proofs.Cases.{left, taken}
+use Rattle.point.proofs.Cases.{left, taken}
 use Rattle.patterns.proofs.truth_number.Statement.{statement}
 use Rattle.patterns.proofs.truth_number.Tie as tie
 

@@ -7,7 +7,7 @@ use mathlib.Core.Path.{_≡_, sym}
 use native.Mathlib.Omega.{arith}
 use Rattle.places.specs.Layout.{recordFor}
 use mathlib.Core.Bool.{false}
-use Rattle.helpers.specs.Point.{sameOf}
+use Rattle.point.specs.Point.{sameOf}
 use Rattle.places.specs.Layout.{recordRoot}
 use Rattle.places.proofs.record_for.Statement.{statement}
 use Rattle.places.proofs.record_for.Tie as tie

@@ -4,8 +4,8 @@ use mathlib.Core.Path.{_≡_}
 use mathlib.Core.List.{List}
 use lib.Dec.{eqb}
 use lib.ListN.{getD}
-use Rattle.helpers.specs.declared.point.Point.{Point}
-use Rattle.helpers.specs.Point.{zero, fromBitsOf}
+use Rattle.point.specs.declared.Point.{Point}
+use Rattle.point.specs.Point.{zero, fromBitsOf}
 use borrow.Author.Needs.{needs}
 use Rattle.steps_c.specs.Ask.{nodeOf}
 use Rattle.steps_c.proofs.node_of.Statement.{statement}

@@ -1,7 +1,7 @@
 use mathlib.Core.Path.{refl, sym, _∙_}
 use borrow.Author.Needs.{needs}
-use Rattle.helpers.specs.Point.{sameOf}
-use Rattle.helpers.proofs.Cases.{taken, left, and-taken}
+use Rattle.point.specs.Point.{sameOf}
+use Rattle.point.proofs.Cases.{taken, left, and-taken}
 use Rattle.steps.specs.Steps.{isInterval}
 use Rattle.view.proofs.is_interval.Statement.{statement}
 use Rattle.view.proofs.is_interval.Tie as tie

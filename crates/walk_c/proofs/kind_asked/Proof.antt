@@ -1,7 +1,7 @@
 -- `walk_c::kind_asked` meets its contract: each return is its definition's case, by its tests. Assumes nothing.
 use mathlib.Core.Path.{refl}
 use borrow.Author.Tests.{eq-eqb, ne-eqb}
-use Rattle.helpers.proofs.Cases.{left, taken}
+use Rattle.point.proofs.Cases.{left, taken}
 use Rattle.walk_c.specs.Walk.{kindAskedOf}
 use Rattle.walk_c.proofs.kind_asked.Statement.{statement}
 use Rattle.walk_c.proofs.kind_asked.Tie as tie

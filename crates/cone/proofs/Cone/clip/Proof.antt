@@ -2,7 +2,7 @@
 use borrow.Author.Needs.{needs}
 use mathlib.Core.Path.{refl}
 use Rattle.cone.specs.Cone.{clipOf}
-use Rattle.helpers.proofs.Cases.{left, taken}
+use Rattle.point.proofs.Cases.{left, taken}
 use Rattle.cone.proofs.Cases.{away, kept}
 use Rattle.cone.proofs.Cone.clip.Statement.{statement}
 use Rattle.cone.proofs.Cone.clip.Tie as tie

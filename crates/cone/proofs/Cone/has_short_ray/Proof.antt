@@ -1,7 +1,7 @@
 -- `cone::Cone::has_short_ray` meets its contract: each return is its definition's case, by its tests. Assumes nothing.
 use mathlib.Core.Path.{refl}
 use Rattle.cone.specs.Cone.{hasShortRayOf}
-use Rattle.helpers.proofs.Cases.{or-left, or-taken}
+use Rattle.point.proofs.Cases.{or-left, or-taken}
 use Rattle.cone.proofs.Cone.has_short_ray.Statement.{statement}
 use Rattle.cone.proofs.Cone.has_short_ray.Tie as tie
 

@@ -2,7 +2,7 @@
 use borrow.Author.Needs.{needs}
 use mathlib.Core.Path.{refl}
 use Rattle.cone.specs.Cone.{cutOf}
-use Rattle.helpers.proofs.Cases.{left, taken}
+use Rattle.point.proofs.Cases.{left, taken}
 use Rattle.cone.proofs.Part.cut.Statement.{statement}
 use Rattle.cone.proofs.Part.cut.Tie as tie
 

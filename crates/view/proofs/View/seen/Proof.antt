@@ -1,5 +1,5 @@
 use mathlib.Core.Path.{refl, sym, _∙_}
-use Rattle.helpers.proofs.Cases.{taken, left}
+use Rattle.point.proofs.Cases.{taken, left}
 use borrow.Author.Needs.{needs}
 use Rattle.view.specs.View.{seenBy}
 use Rattle.view.proofs.View.seen.Statement.{statement}

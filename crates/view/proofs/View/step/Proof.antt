@@ -2,7 +2,7 @@ use mathlib.Core.Path.{refl}
 use borrow.Author.Needs.{needs}
 use lib.Dec.{eqb}
 use Rattle.stored.specs.Stored.{unused}
-use Rattle.helpers.proofs.Cases.{taken}
+use Rattle.point.proofs.Cases.{taken}
 use borrow.Author.Tests.{eq-eqb}
 use borrow.Author.Tests.{ne-eqb}
 use borrow.Author.Tests.{not-false}

@@ -1,6 +1,6 @@
 -- `walk::cut::cut_if` meets its contract: each return is its definition's case, by its tests. Assumes nothing.
 use mathlib.Core.Path.{refl}
-use Rattle.helpers.proofs.Cases.{left, taken}
+use Rattle.point.proofs.Cases.{left, taken}
 use Rattle.walk.specs.Walk.{cutIfOf}
 use Rattle.walk.proofs.cut.cut_if.Statement.{statement}
 use Rattle.walk.proofs.cut.cut_if.Tie as tie

@@ -1,6 +1,6 @@
 -- `walk::cut::seen_if` meets its contract: each return is its definition's case, by its tests. Assumes nothing.
 use mathlib.Core.Path.{refl}
-use Rattle.helpers.proofs.Cases.{left, taken}
+use Rattle.point.proofs.Cases.{left, taken}
 use Rattle.walk.specs.Walk.{seenIfOf}
 use Rattle.walk.proofs.cut.seen_if.Statement.{statement}
 use Rattle.walk.proofs.cut.seen_if.Tie as tie

@@ -1,0 +1,28 @@
+-- `point::Point::in_bounding_box` meets its contract: each return is its definition's case, by its tests and by what its callees ensure. Assumes nothing.
+use borrow.Author.Needs.{needs}
+use Rattle.point.specs.Sides.{inBoundingBoxOf}
+use Rattle.point.proofs.Cases.{and-left, and-taken}
+use Rattle.point.proofs.Point.in_bounding_box.Statement.{statement}
+use Rattle.point.proofs.Point.in_bounding_box.Tie as tie
+
+between-requires : tie.Need-between-requires
+between-requires c κs = search needs
+
+between-requires-2 : tie.Need-between-requires-2
+between-requires-2 c κs = search needs
+
+returns : tie.Need-returns
+unfolding inBoundingBoxOf
+returns c =
+    let c1 = c .before in
+    let c2 = c1 .before in
+    and-taken _ _ (simp (c2 .between .ensures) at (c1 .if1 .taken)) (simp (c .between2 .ensures))
+
+returns-2 : tie.Need-returns-2
+unfolding inBoundingBoxOf
+returns-2 c =
+    let c1 = c .before in
+    and-left _ _ (simp (c1 .between .ensures) at (c .if1 .left)) (c .if1 .left)
+
+pub in-bounding-box-spec : {M : Type 1} → statement M
+in-bounding-box-spec = tie.close (tie.spec between-requires between-requires-2 returns returns-2)

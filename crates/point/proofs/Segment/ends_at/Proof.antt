@@ -1,0 +1,28 @@
+-- `point::Segment::ends_at` meets its contract: each return is its definition's case, by its tests and by what its callees ensure. Assumes nothing.
+use borrow.Author.Needs.{needs}
+use Rattle.point.specs.Point.{endsAtOf}
+use Rattle.point.proofs.Cases.{or-left, or-taken}
+use Rattle.point.proofs.Segment.ends_at.Statement.{statement}
+use Rattle.point.proofs.Segment.ends_at.Tie as tie
+
+same-requires : tie.Need-same-requires
+same-requires c κs = search needs
+
+same-requires-2 : tie.Need-same-requires-2
+same-requires-2 c κs = search needs
+
+returns : tie.Need-returns
+unfolding endsAtOf
+returns c =
+    let c1 = c .before in
+    or-taken _ _ (simp (c1 .same .ensures) at (c .if1 .taken)) (c .if1 .taken)
+
+returns-2 : tie.Need-returns-2
+unfolding endsAtOf
+returns-2 c =
+    let c1 = c .before in
+    let c2 = c1 .before in
+    or-left _ _ (simp (c2 .same .ensures) at (c1 .if1 .left)) (simp (c .same2 .ensures))
+
+pub ends-at-spec : {M : Type 1} → statement M
+ends-at-spec = tie.close (tie.spec same-requires same-requires-2 returns returns-2)

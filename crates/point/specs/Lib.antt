@@ -1,0 +1,3 @@
+-- What the contracts of `point` cite.
+pub mod Point
+pub mod Sides
