@@ -12,8 +12,8 @@ use lib.ListN.{length, drop, drop-of-length-le}
 use lib.Seq.{drop-cons, getD-take, length-take-le}
 use Rattle.counts.specs.Counts.{table}
 use Rattle.point.specs.declared.Point.{Point}
-use Rattle.walk.specs.declared.SuccessorType.{SuccessorType}
-use Rattle.walk.specs.declared.SuccessorType.the-variants.{Observable, RightNonObservable}
+use Rattle.cut.specs.declared.SuccessorType.{SuccessorType}
+use Rattle.cut.specs.declared.SuccessorType.the-variants.{Observable, RightNonObservable}
 use Rattle.walk.specs.declared.Part.{Part}
 use Rattle.walk.specs.declared.Walked.{Walked}
 use Rattle.walk.specs.declared.round.Round.{Round}

@@ -7,7 +7,7 @@ use mathlib.Core.List.{List}
 use borrow.Author.Tests.{leb-false, lt-leb}
 use lib.ListN.{length}
 use Rattle.point.specs.declared.Segment.{Segment}
-use Rattle.walk.specs.declared.SuccessorType.{SuccessorType}
+use Rattle.cut.specs.declared.SuccessorType.{SuccessorType}
 use Rattle.walk.specs.declared.round.Round.{Round}
 use Rattle.walk.specs.Walk.{walkEdgeOf, walkedOf, oneOf}
 use Rattle.walk.specs.Turns.{beginOf, isOverOf, edgeNumberOf}

@@ -10,11 +10,11 @@ ghost use Rattle.walk.specs.Turns.{isOverOf};
 ghost use Rattle.stored.specs.Stored.{floorOf, polygonAt};
 ghost use Rattle.steps.specs.Steps.{placeOf};
 ghost use Rattle.going.specs.Going.{wholeOf, walkBy, onEdge, beginGoing, nextGoing, Stands, Turning, Goes};
+use cut::SuccessorType;
 use point::Segment;
 use steps::Node;
 use walk::Part;
 use walk::Round;
-use walk::SuccessorType;
 use walk::Walked;
 
 // The edge that is on, what the walk yields on it, and which part of that is on.

@@ -12,8 +12,8 @@ use lib.ListN.{length}
 use Rattle.point.specs.Point as point
 use Rattle.point.specs.Point.{sameOf}
 use Rattle.helpers.specs.Helpers.{heuristicOf}
-use Rattle.walk.specs.declared.SuccessorType.{SuccessorType}
-use Rattle.walk.specs.declared.SuccessorType.the-variants.{LeftNonObservable, Observable, RightNonObservable}
+use Rattle.cut.specs.declared.SuccessorType.{SuccessorType}
+use Rattle.cut.specs.declared.SuccessorType.the-variants.{LeftNonObservable, Observable, RightNonObservable}
 use Rattle.stored.specs.Stored.{Floor, floorOf}
 use Rattle.faults.specs.Accepted.{Accepted}
 use Rattle.route.specs.declared.Step.{Step}

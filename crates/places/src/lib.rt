@@ -5,11 +5,11 @@ ghost use mathlib.Core.Path.{_≡_};
 ghost use Prim.Native.Nat.{_+_, _*_, _≤_, _<_, min};
 ghost use lib.ListN.{length};
 ghost use Rattle.places.specs.Layout.{workOf, placesIn, intervalIn, nodeIn, kindOf, stepIn, parentIn, depthIn, numberIn, putFloats, putWords, recordRoot, recordDistance, recordFor, recordPut, distancePut};
+use cut::SuccessorType;
 use point::Point;
 use point::Segment;
 use route::Step;
 use steps::Node;
-use walk::SuccessorType;
 
 // Floats and words in a row.
 pub const FLOATS: usize = 11;

@@ -14,8 +14,8 @@ use Rattle.helpers.specs.declared.Turn.{Turn}
 use Rattle.helpers.specs.declared.Turn.the-variants.{Around, Straight}
 use Rattle.point.specs.Point.{pointOf, fromBitsOf, sameOf, plusOf, distanceOf}
 use Rattle.helpers.specs.Helpers.{turningPointOf}
-use Rattle.walk.specs.declared.SuccessorType.{SuccessorType}
-use Rattle.walk.specs.declared.SuccessorType.the-variants.{LeftNonObservable, Observable, RightNonObservable}
+use Rattle.cut.specs.declared.SuccessorType.{SuccessorType}
+use Rattle.cut.specs.declared.SuccessorType.the-variants.{LeftNonObservable, Observable, RightNonObservable}
 use Rattle.stored.specs.Stored.{Floor, floorOf, questionOf, vertex}
 use Rattle.floor.specs.Where.{polygonOf}
 use Rattle.route.specs.declared.Step.{Step}

@@ -12,8 +12,8 @@ use lib.Seq.{take-at, drop-at}
 use Rattle.word.specs.Word.{littleEndian, bytesOf}
 use Rattle.word.proofs.Bytes.{length-bytesOf, littleEndian-bytesOf}
 use Rattle.point.specs.declared.Point.{Point}
-use Rattle.walk.specs.declared.SuccessorType.{SuccessorType}
-use Rattle.walk.specs.declared.SuccessorType.the-variants.{LeftNonObservable, Observable, RightNonObservable}
+use Rattle.cut.specs.declared.SuccessorType.{SuccessorType}
+use Rattle.cut.specs.declared.SuccessorType.the-variants.{LeftNonObservable, Observable, RightNonObservable}
 use Rattle.route.specs.declared.Step.{Step}
 use Rattle.route.specs.Step.{kindNumber, HeldPoint, Held}
 use Rattle.route.specs.Record.{wordsBytes, bits, seedWords, stepWords, endWords, seedBytes, stepBytes, endBytes}

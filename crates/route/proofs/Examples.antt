@@ -10,7 +10,7 @@ use lib.Ieee.Bits.{ofBits-fits}
 use Rattle.float.proofs.Tests.{untrue}
 use Rattle.word.specs.Word.{bytesOf}
 use Rattle.point.specs.declared.Point.{Point}
-use Rattle.walk.specs.declared.SuccessorType.the-variants.{Observable}
+use Rattle.cut.specs.declared.SuccessorType.the-variants.{Observable}
 use Rattle.route.specs.declared.Step.{Step}
 use Rattle.route.specs.declared.Judged.the-variants.{Accepted, Length, NotSeed, NotStep, NotEnd}
 use Rattle.route.specs.Step.{kindNumber, HeldPoint, Held}

@@ -3,8 +3,8 @@ use Prim.Native.Nat.{ℕ, _<_, _^_}
 use lib.Dec.{T}
 use lib.Ieee.{binary32, fits}
 use Rattle.point.specs.declared.Point.{Point}
-use Rattle.walk.specs.declared.SuccessorType.{SuccessorType}
-use Rattle.walk.specs.declared.SuccessorType.the-variants.{LeftNonObservable, Observable, RightNonObservable}
+use Rattle.cut.specs.declared.SuccessorType.{SuccessorType}
+use Rattle.cut.specs.declared.SuccessorType.the-variants.{LeftNonObservable, Observable, RightNonObservable}
 use Rattle.route.specs.declared.Step.{Step}
 
 -- "Observable is kind 2, .. RightNonObservable is kind 3, LeftNonObservable kind 4"

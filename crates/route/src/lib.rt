@@ -3,8 +3,8 @@
 ghost use mathlib.Core.Path.{_≡_};
 ghost use Rattle.route.specs.Step.{kindNumber};
 ghost use Rattle.route.specs.Judge.{judgedNumber};
+use cut::SuccessorType;
 use point::Segment;
-use walk::SuccessorType;
 
 // A step as the route file has it: how the interval is seen, the polygon that is entered, the two vertices of the edge as
 // the polygon that is left has it, and the interval from its right end to its left end.

@@ -5,7 +5,7 @@ use mathlib.Core.List.{[], _∷_}
 use lib.Ieee.{add, neg, lt, le, eq, ofBits, odd, size}
 use Rattle.counts.specs.Counts.{first, table}
 use Rattle.point.specs.Point.{pointOf, fromBitsOf, plusOf, sameOf}
-use Rattle.walk.specs.declared.SuccessorType.the-variants.{Observable}
+use Rattle.cut.specs.declared.SuccessorType.the-variants.{Observable}
 use Rattle.stored.specs.Stored.{Floor, unused, corner, neighbour, cornerCount, cornerAfter, polygon, vertex, edge}
 use Rattle.route.specs.declared.Step.{Step}
 use Rattle.steps.specs.declared.Node.{Node}

@@ -13,7 +13,7 @@ use Rattle.point.specs.Point.{slack, pointOf, plusOf, sameOf}
 use Rattle.cone.specs.declared.Clipped.the-variants.{Seen}
 use Rattle.cone.specs.Cone.{clipToConeOf}
 use Rattle.cone.proofs.Clip.{rightLength, leftLength, clip-short-ray, clip-ends}
-use Rattle.walk.specs.declared.SuccessorType.{SuccessorType}
+use Rattle.cut.specs.declared.SuccessorType.{SuccessorType}
 use Rattle.walk.specs.declared.Part.{Part}
 use Rattle.walk.specs.Walk.{walkEdgeOf}
 use Rattle.walk.specs.Round.{Successor, cornerOf, edgeOf, successorsOn, walkOf, successorsOf}

@@ -12,8 +12,8 @@ use Rattle.cone.specs.declared.Clipped.{Clipped}
 use Rattle.cone.specs.declared.Clipped.the-variants.{Seen, Nothing}
 use Rattle.cone.specs.Cone.{clipToConeOf}
 use Rattle.cone.specs.Landing.{landsOnOf}
-use Rattle.walk.specs.declared.SuccessorType.{SuccessorType}
-use Rattle.walk.specs.declared.SuccessorType.the-variants.{LeftNonObservable, Observable, RightNonObservable}
+use Rattle.cut.specs.declared.SuccessorType.{SuccessorType}
+use Rattle.cut.specs.declared.SuccessorType.the-variants.{LeftNonObservable, Observable, RightNonObservable}
 use Rattle.walk.specs.Round.{Successor, successorsOf}
 use Rattle.stored.specs.Stored.{Floor, Polygon, unused, corner, neighbour, cornerCount, cornerAfter, polygon, vertex, edge}
 use Rattle.floor.specs.Where.{isTurn}

@@ -6,11 +6,11 @@ ghost use lib.ListN.{length};
 ghost use Rattle.stored.specs.Stored.{floorOf};
 ghost use Rattle.steps.specs.Steps.{seedNode, rootAfter, enter};
 ghost use Rattle.steps.specs.World.{endingOf};
+use cut::SuccessorType;
 use helpers::Turn;
 use point::Point;
 use point::Segment;
 use route::Step;
-use walk::SuccessorType;
 
 // Where steps lead to: the polygon, the edge and the interval that it was entered by, the root, which is the last point
 // where the way turned, and how long the way to it is and how many points it has. The seed, where every route begins, was

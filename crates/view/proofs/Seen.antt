@@ -12,8 +12,8 @@ use Rattle.cone.specs.declared.Clipped.{Clipped}
 use Rattle.cone.specs.declared.Clipped.the-variants.{Seen}
 use Rattle.cone.specs.Cone.{clipToConeOf}
 use Rattle.cone.proofs.Clip.{kept-cone-clips-the-same}
-use Rattle.walk.specs.declared.SuccessorType.{SuccessorType}
-use Rattle.walk.specs.declared.SuccessorType.the-variants.{LeftNonObservable, Observable, RightNonObservable}
+use Rattle.cut.specs.declared.SuccessorType.{SuccessorType}
+use Rattle.cut.specs.declared.SuccessorType.the-variants.{LeftNonObservable, Observable, RightNonObservable}
 use Rattle.walk.specs.declared.Part.{Part}
 use Rattle.steps.specs.declared.Node.{Node}
 use Rattle.steps.specs.Steps.{isAllowed, rootAfter, clipped, stepOf}

@@ -10,8 +10,8 @@ use Rattle.cone.specs.declared.Clipped.{Clipped}
 use Rattle.cone.specs.declared.Clipped.the-variants.{Seen}
 use Rattle.cone.specs.Cone.{coneOf, clipOf}
 use Rattle.cone.specs.Landing.{landsOnOf}
-use Rattle.walk.specs.declared.SuccessorType.{SuccessorType}
-use Rattle.walk.specs.declared.SuccessorType.the-variants.{LeftNonObservable, Observable, RightNonObservable}
+use Rattle.cut.specs.declared.SuccessorType.{SuccessorType}
+use Rattle.cut.specs.declared.SuccessorType.the-variants.{LeftNonObservable, Observable, RightNonObservable}
 use Rattle.walk.specs.declared.Part.{Part}
 use Rattle.stored.specs.Stored.{Floor, Polygon, unused, corner, neighbour, cornerAfter, vertex}
 use Rattle.floor.specs.Where.{isTurn}

@@ -9,6 +9,7 @@ ghost use Rattle.steps.specs.Steps.{isFinite, isInterval};
 ghost use Rattle.view.specs.View.{cornerOn, viewOf, allowsOf, turnedTo, seenBy, stepBy};
 use cone::Clipped;
 use cone::Cone;
+use cut::SuccessorType;
 use point::Point;
 use point::Segment;
 use route::Step;
@@ -16,7 +17,6 @@ use steps::Node;
 use steps::Permitted;
 use stored::UNUSED;
 use walk::Part;
-use walk::SuccessorType;
 
 // A vertex of the entry edge: where it is, and whether the way may turn there.
 pub struct Corner {

@@ -4,11 +4,12 @@ use mathlib.Core.List.{_∷_}
 use Rattle.point.specs.declared.Point.{Point}
 use Rattle.point.specs.declared.Segment.{Segment}
 use Rattle.helpers.specs.declared.Crossing.the-variants.{At, Nowhere}
-use Rattle.walk.specs.declared.SuccessorType.{SuccessorType}
+use Rattle.cut.specs.declared.SuccessorType.{SuccessorType}
 use Rattle.walk.specs.declared.Part.{Part}
 use Rattle.walk.specs.declared.Walked.{Walked}
-use Rattle.walk.specs.declared.cut.Cut.{Cut}
-use Rattle.walk.specs.Walk.{firstCutOf, secondCutOf, partOf, oneOf, twoOf, threeOf, held, walkedOf, restOf, walkEdgeOf}
+use Rattle.cut.specs.declared.Cut.{Cut}
+use Rattle.cut.specs.Cut.{firstCutOf, secondCutOf}
+use Rattle.walk.specs.Walk.{partOf, oneOf, twoOf, threeOf, held, walkedOf, restOf, walkEdgeOf}
 
 -- ---- the left ray, on what is left of an edge
 

@@ -9,10 +9,11 @@ use Rattle.helpers.specs.declared.Crossing.the-variants.{At, Nowhere}
 use Rattle.point.specs.Point.{plusOf, minusOf, timesOf}
 use Rattle.point.specs.Sides.{sideOf}
 use Rattle.helpers.specs.Helpers.{crossesOf, clampOf, intersectionTimeOf, lineIntersectSegmentOf}
-use Rattle.walk.specs.declared.SuccessorType.{SuccessorType}
+use Rattle.cut.specs.declared.SuccessorType.{SuccessorType}
 use Rattle.walk.specs.declared.Part.{Part}
-use Rattle.walk.specs.declared.cut.Cut.{Cut}
-use Rattle.walk.specs.Walk.{partOf, before, behind, cutOr, restOf, walkEdgeOf, firstCutOf, secondCutOf, firstCrossingOf, cutIfOf, nowhereOf, toldApartOf, apartFromBothOf}
+use Rattle.cut.specs.declared.Cut.{Cut}
+use Rattle.cut.specs.Cut.{firstCutOf, secondCutOf, firstCrossingOf, cutIfOf, nowhereOf, toldApartOf, apartFromBothOf}
+use Rattle.walk.specs.Walk.{partOf, before, behind, cutOr, restOf, walkEdgeOf}
 use Rattle.walk.proofs.All.{All, all-append}
 
 by-side : {A : Type 0} (P : A → Type 0) (side : EdgeSide) (l r e : A) → P l → P r → P e → P (elim side as (λ _. A) [ Left ↦ l | Right ↦ r | Edge ↦ e ])

@@ -7,8 +7,9 @@ use Rattle.point.specs.declared.Segment.{Segment}
 use Rattle.point.specs.Point.{pointOf, fromBitsOf, minusOf, plusOf, timesOf, dotOf, perpDotOf, distanceSquaredOf}
 use Rattle.point.specs.Sides.{magnitudeOf, sideOf}
 use Rattle.helpers.specs.Helpers.{intersectionTimeOf, crossesOf, clampOf, lineIntersectSegmentOf}
-use Rattle.walk.specs.declared.SuccessorType.the-variants.{LeftNonObservable, Observable, RightNonObservable}
-use Rattle.walk.specs.Walk.{toldApartOf, apartFromBothOf, cutIfOf, seenIfOf, nowhereOf, firstCrossingOf, seenFromRightOf, unlessRightOf, firstCutOf, secondCutOf, partOf, restOf, walkEdgeOf}
+use Rattle.cut.specs.declared.SuccessorType.the-variants.{LeftNonObservable, Observable, RightNonObservable}
+use Rattle.cut.specs.Cut.{toldApartOf, apartFromBothOf, cutIfOf, seenIfOf, nowhereOf, firstCrossingOf, seenFromRightOf, unlessRightOf, firstCutOf, secondCutOf}
+use Rattle.walk.specs.Walk.{partOf, restOf, walkEdgeOf}
 use Rattle.walk.specs.Round.{wrapped, cornerOf, edgeOf, afterEntry, edgesFrom, others, walkOf, successorsOf}
 
 -- ---- numbers, as the bit patterns of their f32

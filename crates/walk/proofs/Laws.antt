@@ -14,11 +14,12 @@ use Rattle.point.specs.declared.Point.{Point}
 use Rattle.point.specs.declared.Segment.{Segment}
 use Rattle.helpers.specs.declared.Crossing.{Crossing}
 use Rattle.helpers.specs.declared.Crossing.the-variants.{At, Nowhere}
-use Rattle.walk.specs.declared.SuccessorType.{SuccessorType}
-use Rattle.walk.specs.declared.SuccessorType.the-variants.{RightNonObservable}
+use Rattle.cut.specs.declared.SuccessorType.{SuccessorType}
+use Rattle.cut.specs.declared.SuccessorType.the-variants.{RightNonObservable}
 use Rattle.walk.specs.declared.Part.{Part}
-use Rattle.walk.specs.declared.cut.Cut.{Cut}
-use Rattle.walk.specs.Walk.{Walk, firstCutOf, secondCutOf, partOf, before, behind, cutOr, restOf, walkEdgeOf, oneOf, twoOf, threeOf, held, walkedOf, partsOf, noPart, partAt}
+use Rattle.cut.specs.declared.Cut.{Cut}
+use Rattle.cut.specs.Cut.{firstCutOf, secondCutOf}
+use Rattle.walk.specs.Walk.{Walk, partOf, before, behind, cutOr, restOf, walkEdgeOf, oneOf, twoOf, threeOf, held, walkedOf, partsOf, noPart, partAt}
 use Rattle.walk.specs.Round.{wrapped, edgeOf, afterEntry, edgesFrom, others, walkOf, successorsOf}
 use Rattle.walk.proofs.Wrap.{wrapped-cases, up-to-the-last, from-the-first, length-edges, edge-at}
 

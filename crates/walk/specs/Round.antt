@@ -9,8 +9,8 @@ use lib.ListN.{length, getD}
 use Rattle.point.specs.declared.Point.{Point}
 use Rattle.point.specs.declared.Segment.{Segment}
 use Rattle.point.specs.Point.{pointOf}
-use Rattle.walk.specs.declared.SuccessorType.{SuccessorType}
-use Rattle.walk.specs.declared.SuccessorType.the-variants.{RightNonObservable}
+use Rattle.cut.specs.declared.SuccessorType.{SuccessorType}
+use Rattle.cut.specs.declared.SuccessorType.the-variants.{RightNonObservable}
 use Rattle.walk.specs.declared.Part.{Part}
 use Rattle.walk.specs.Walk.{walkEdgeOf}
 

@@ -7,8 +7,8 @@ use lib.Dec.{leb}
 use lib.ListN.{length}
 use Rattle.point.specs.declared.Point.{Point}
 use Rattle.point.specs.declared.Segment.{Segment}
-use Rattle.walk.specs.declared.SuccessorType.{SuccessorType}
-use Rattle.walk.specs.declared.SuccessorType.the-variants.{RightNonObservable}
+use Rattle.cut.specs.declared.SuccessorType.{SuccessorType}
+use Rattle.cut.specs.declared.SuccessorType.the-variants.{RightNonObservable}
 use Rattle.walk.specs.declared.round.Round.{Round}
 use Rattle.walk.specs.Walk.{Walk, walkEdgeOf}
 use Rattle.walk.specs.Round.{edgeOf, afterEntry, edgesFrom, Successor, successorsOn, walkOf}

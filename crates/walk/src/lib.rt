@@ -4,21 +4,14 @@
 ghost use mathlib.Core.Path.{_≡_};
 ghost use mathlib.Core.List.{_∷_};
 ghost use Rattle.walk.specs.Walk.{partOf, oneOf, twoOf, threeOf, walkedOf, held, restOf, walkEdgeOf};
+use cut::SuccessorType;
 use helpers::Crossing;
 use point::Point;
 use point::Segment;
 
-mod cut;
 mod round;
 
 pub use round::Round;
-
-// How an interval is seen from the root.
-pub enum SuccessorType {
-    LeftNonObservable,
-    Observable,
-    RightNonObservable,
-}
 
 // A part of an edge, and how it is seen.
 pub struct Part {

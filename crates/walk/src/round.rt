@@ -4,7 +4,7 @@
 ghost use mathlib.Core.Path.{_≡_};
 ghost use Prim.Native.Nat.{_<_};
 ghost use Rattle.walk.specs.Turns.{beginOf, isOverOf, edgeNumberOf, nextOf};
-use crate::SuccessorType;
+use cut::SuccessorType;
 
 // Of a polygon's count edges, taken have been walked since the entry edge; kind is what the last one left.
 pub struct Round {

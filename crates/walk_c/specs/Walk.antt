@@ -8,8 +8,8 @@ use lib.ListN.{length, set}
 use lib.Seq.{sets}
 use Rattle.point.specs.declared.Point.{Point}
 use Rattle.point.specs.declared.Segment.{Segment}
-use Rattle.walk.specs.declared.SuccessorType.{SuccessorType}
-use Rattle.walk.specs.declared.SuccessorType.the-variants.{LeftNonObservable, Observable, RightNonObservable}
+use Rattle.cut.specs.declared.SuccessorType.{SuccessorType}
+use Rattle.cut.specs.declared.SuccessorType.the-variants.{LeftNonObservable, Observable, RightNonObservable}
 use Rattle.walk.specs.declared.Part.{Part}
 use Rattle.walk.specs.Walk.{Walk, walkEdgeOf, partAt}
 use Rattle.walk_c.specs.declared.Asked.{Asked}

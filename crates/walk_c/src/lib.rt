@@ -7,10 +7,10 @@ ghost use lib.Seq.{sets};
 ghost use Rattle.point.specs.Point.{fromBitsOf};
 ghost use Rattle.patterns.specs.Patterns.{segmentOf};
 ghost use Rattle.walk_c.specs.Walk.{kindNumber, kindAskedOf, partWords, partsWritten, walkNumber, walkWritten};
+use cut::SuccessorType;
 use patterns::segment;
 use point::Point;
 use walk::Part;
-use walk::SuccessorType;
 
 // The kind that a number stands for.
 enum Asked {

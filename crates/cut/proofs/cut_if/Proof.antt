@@ -1,9 +1,9 @@
--- `walk::cut::cut_if` meets its contract: each return is its definition's case, by its tests. Assumes nothing.
+-- `cut::cut_if` meets its contract: each return is its definition's case, by its tests. Assumes nothing.
 use mathlib.Core.Path.{refl}
 use Rattle.point.proofs.Cases.{left, taken}
-use Rattle.walk.specs.Walk.{cutIfOf}
-use Rattle.walk.proofs.cut.cut_if.Statement.{statement}
-use Rattle.walk.proofs.cut.cut_if.Tie as tie
+use Rattle.cut.specs.Cut.{cutIfOf}
+use Rattle.cut.proofs.cut_if.Statement.{statement}
+use Rattle.cut.proofs.cut_if.Tie as tie
 
 returns : tie.Need-returns
 unfolding cutIfOf

@@ -1,9 +1,9 @@
--- `walk::cut::seen_if` meets its contract: each return is its definition's case, by its tests. Assumes nothing.
+-- `cut::seen_if` meets its contract: each return is its definition's case, by its tests. Assumes nothing.
 use mathlib.Core.Path.{refl}
 use Rattle.point.proofs.Cases.{left, taken}
-use Rattle.walk.specs.Walk.{seenIfOf}
-use Rattle.walk.proofs.cut.seen_if.Statement.{statement}
-use Rattle.walk.proofs.cut.seen_if.Tie as tie
+use Rattle.cut.specs.Cut.{seenIfOf}
+use Rattle.cut.proofs.seen_if.Statement.{statement}
+use Rattle.cut.proofs.seen_if.Tie as tie
 
 returns : tie.Need-returns
 unfolding seenIfOf

@@ -1,8 +1,8 @@
--- `walk::cut::first_crossing` meets its contract: its definition is made of what its callees ensure. Assumes nothing.
+-- `cut::first_crossing` meets its contract: its definition is made of what its callees ensure. Assumes nothing.
 use borrow.Author.Needs.{needs}
-use Rattle.walk.specs.Walk.{firstCrossingOf}
-use Rattle.walk.proofs.cut.first_crossing.Statement.{statement}
-use Rattle.walk.proofs.cut.first_crossing.Tie as tie
+use Rattle.cut.specs.Cut.{firstCrossingOf}
+use Rattle.cut.proofs.first_crossing.Statement.{statement}
+use Rattle.cut.proofs.first_crossing.Tie as tie
 
 apart-from-both-requires : tie.Need-apart-from-both-requires
 apart-from-both-requires c κs = search needs

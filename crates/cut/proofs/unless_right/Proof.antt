@@ -1,8 +1,8 @@
--- `walk::cut::unless_right` meets its contract: each arm is its definition's case. Assumes nothing.
+-- `cut::unless_right` meets its contract: each arm is its definition's case. Assumes nothing.
 use borrow.Author.Needs.{needs}
-use Rattle.walk.specs.Walk.{unlessRightOf}
-use Rattle.walk.proofs.cut.unless_right.Statement.{statement}
-use Rattle.walk.proofs.cut.unless_right.Tie as tie
+use Rattle.cut.specs.Cut.{unlessRightOf}
+use Rattle.cut.proofs.unless_right.Statement.{statement}
+use Rattle.cut.proofs.unless_right.Tie as tie
 
 enum-told : tie.Need-enum-told
 enum-told c = search needs

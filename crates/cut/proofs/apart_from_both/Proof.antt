@@ -1,9 +1,9 @@
--- `walk::cut::apart_from_both` meets its contract: each return is its definition's case, by its tests and by what its callees ensure. Assumes nothing.
+-- `cut::apart_from_both` meets its contract: each return is its definition's case, by its tests and by what its callees ensure. Assumes nothing.
 use borrow.Author.Needs.{needs}
 use Rattle.point.proofs.Cases.{and-left, and-taken}
-use Rattle.walk.specs.Walk.{apartFromBothOf}
-use Rattle.walk.proofs.cut.apart_from_both.Statement.{statement}
-use Rattle.walk.proofs.cut.apart_from_both.Tie as tie
+use Rattle.cut.specs.Cut.{apartFromBothOf}
+use Rattle.cut.proofs.apart_from_both.Statement.{statement}
+use Rattle.cut.proofs.apart_from_both.Tie as tie
 
 told-apart-requires : tie.Need-told-apart-requires
 told-apart-requires c κs = search needs

@@ -1,8 +1,8 @@
--- `walk::cut::told_apart` meets its contract: its definition is made of what its callees ensure. Assumes nothing.
+-- `cut::told_apart` meets its contract: its definition is made of what its callees ensure. Assumes nothing.
 use borrow.Author.Needs.{needs}
-use Rattle.walk.specs.Walk.{toldApartOf}
-use Rattle.walk.proofs.cut.told_apart.Statement.{statement}
-use Rattle.walk.proofs.cut.told_apart.Tie as tie
+use Rattle.cut.specs.Cut.{toldApartOf}
+use Rattle.cut.proofs.told_apart.Statement.{statement}
+use Rattle.cut.proofs.told_apart.Tie as tie
 
 distance-squared-requires : tie.Need-distance-squared-requires
 distance-squared-requires c κs = search needs

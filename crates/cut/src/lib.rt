@@ -1,12 +1,19 @@
-// Where a node's two rays cut an edge, and how what comes behind a cut is seen.
+// The cuts of edges_between of vleue/polyanya's src/instance.rs: where a node's two rays cut an edge, and how what comes
+// behind a cut is seen.
 
 ghost use mathlib.Core.Path.{_≡_};
-ghost use Rattle.walk.specs.Walk.{toldApartOf, apartFromBothOf, cutIfOf, seenIfOf, nowhereOf, firstCrossingOf, seenFromRightOf, unlessRightOf, firstCutOf, secondCutOf};
-use crate::SuccessorType;
+ghost use Rattle.cut.specs.Cut.{toldApartOf, apartFromBothOf, cutIfOf, seenIfOf, nowhereOf, firstCrossingOf, seenFromRightOf, unlessRightOf, firstCutOf, secondCutOf};
 use helpers::Crossing;
 use point::EdgeSide;
 use point::Point;
 use point::Segment;
+
+// How an interval is seen from the root.
+pub enum SuccessorType {
+    LeftNonObservable,
+    Observable,
+    RightNonObservable,
+}
 
 // Where a ray cuts an edge, if it does, and the kind from there on.
 pub struct Cut {

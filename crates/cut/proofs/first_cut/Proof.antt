@@ -1,9 +1,9 @@
--- `walk::cut::first_cut` meets its contract: each return is its definition's case, by its arm and by what its callees ensure. Assumes nothing.
+-- `cut::first_cut` meets its contract: each return is its definition's case, by its arm and by what its callees ensure. Assumes nothing.
 use borrow.Author.Needs.{needs}
-use Rattle.walk.proofs.Arms.{found, on-left, on-right, on-edge, at-point, at-none}
-use Rattle.walk.specs.Walk.{firstCutOf}
-use Rattle.walk.proofs.cut.first_cut.Statement.{statement}
-use Rattle.walk.proofs.cut.first_cut.Tie as tie
+use Rattle.cut.proofs.Arms.{found, on-left, on-right, on-edge, at-point, at-none}
+use Rattle.cut.specs.Cut.{firstCutOf}
+use Rattle.cut.proofs.first_cut.Statement.{statement}
+use Rattle.cut.proofs.first_cut.Tie as tie
 
 side-requires : tie.Need-side-requires
 side-requires c κs = search needs

@@ -1,8 +1,8 @@
--- `walk::cut::seen_from_right` meets its contract: each arm is its definition's case. Assumes nothing.
+-- `cut::seen_from_right` meets its contract: each arm is its definition's case. Assumes nothing.
 use borrow.Author.Needs.{needs}
-use Rattle.walk.specs.Walk.{seenFromRightOf}
-use Rattle.walk.proofs.cut.seen_from_right.Statement.{statement}
-use Rattle.walk.proofs.cut.seen_from_right.Tie as tie
+use Rattle.cut.specs.Cut.{seenFromRightOf}
+use Rattle.cut.proofs.seen_from_right.Statement.{statement}
+use Rattle.cut.proofs.seen_from_right.Tie as tie
 
 enum-told : tie.Need-enum-told
 enum-told c = search needs
