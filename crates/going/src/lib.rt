@@ -118,8 +118,13 @@ impl Going {
         ensures { λ r. ⌜ r ≡ partAt (self .walked .parts) (self .part) ⌝ }
     {
         let walked = self.walked;
-        let i = self.part;
-        walked.parts[i]
+        if self.part == 0 {
+            return walked.parts[0];
+        }
+        if self.part == 1 {
+            return walked.parts[1];
+        }
+        walked.parts[2]
     }
 
     // The next part of the edge, else the first one of the next edge.

@@ -33,6 +33,7 @@ use point::Point;
 use route::Step;
 use steps::Node;
 use steps::Permitted;
+use stored::UNUSED;
 use view::View;
 
 fn is_nan(x: f32) -> bool
@@ -189,7 +190,15 @@ fn make_part(
 {
     let edge = going.edge;
     let part = going.part();
-    match view.step(polygons, task.slots, edge, part) {
+    let kind = part.kind;
+    let neighbour = view.neighbour(polygons, task.slots, edge, kind);
+    if neighbour == UNUSED {
+        return Made {
+            counts,
+            full: false,
+        };
+    }
+    match view.over(polygons, task.slots, edge, neighbour, part) {
         Permitted::Yes(step) => make(
             vertices,
             polygons,

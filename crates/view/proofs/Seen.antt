@@ -3,7 +3,9 @@ use Prim.Native.Nat.{ℕ, _<_}
 use mathlib.Core.Path.{_≡_, refl, ap, _∙_}
 use mathlib.Core.Bool.{Bool, true, false, not, _&&_, cond}
 use mathlib.Core.List.{List}
-use Rattle.stored.specs.Stored.{Floor, polygon}
+use lib.Dec.{eqb}
+use borrow.Author.Tests.{eq-eqb, ne-eqb}
+use Rattle.stored.specs.Stored.{Floor, Polygon, unused, corner, cornerAfter, neighbour, polygon}
 use Rattle.floor.specs.Where.{isTurn, isMarked, marksOf}
 use Rattle.floor.proofs.Turned.{marks-turn}
 use Rattle.point.specs.declared.Segment.{Segment}
@@ -16,8 +18,11 @@ use Rattle.cut.specs.declared.SuccessorType.{SuccessorType}
 use Rattle.cut.specs.declared.SuccessorType.the-variants.{LeftNonObservable, Observable, RightNonObservable}
 use Rattle.walk.specs.declared.Part.{Part}
 use Rattle.steps.specs.declared.Node.{Node}
-use Rattle.steps.specs.Steps.{isAllowed, rootAfter, clipped, stepOf}
-use Rattle.view.specs.View.{cornerOn, viewOf, allowsOf, turnedTo, seenBy, stepBy}
+use Rattle.steps.specs.declared.Permitted.{Permitted}
+use Rattle.steps.specs.declared.Permitted.the-variants.{Yes, No}
+use Rattle.steps.specs.Steps.{isAllowed, rootAfter, clipped, isInterval, ifSeen, stepOf}
+use Rattle.view.specs.declared.View.{View}
+use Rattle.view.specs.View.{cornerOn, viewOf, allowsOf, turnedTo, seenBy, neighbourBy, overBy, stepBy}
 
 -- a turn vertex is marked, and no other is
 pub mark-tells : (f : Floor) (marks : List ℕ) (v : ℕ) → marks ≡ marksOf f → v < 1024 → isMarked marks v ≡ isTurn f v
@@ -48,5 +53,28 @@ module _ (f : Floor) (node : Node) where
       go x y false same = refl
 
   pub step-by-view : (i : ℕ) (part : Part) → stepBy (polygon f (node .polygon)) (viewOf f node) i part ≡ stepOf f node (record { edge = i; part = part })
-  unfolding stepBy stepOf
-  step-by-view i part = rw (allows-is (part .kind), seen-is (part .kind) (part .interval))
+  unfolding stepBy neighbourBy overBy stepOf
+  step-by-view i part =
+      rw (allows-is (part .kind), seen-is (part .kind) (part .interval))
+      (go (isAllowed f node (part .kind)) (neighbour (polygon f (node .polygon)) i) (over i part))
+    where
+      over : ℕ → Part → ℕ → Permitted
+      over i part n = ifSeen (clipped f node (part .kind) (part .interval)) (λ interval. cond (not (isInterval interval)) No (Yes (record { kind = part .kind; polygon = n; first = corner (polygon f (node .polygon)) i; second = cornerAfter (polygon f (node .polygon)) i; interval = interval })))
+
+      go : (allowed : Bool) (n : ℕ) (x : ℕ → Permitted) → cond (eqb (cond allowed n unused) unused) No (x (cond allowed n unused)) ≡ cond (eqb n unused) No (cond (not allowed) No (x n))
+      go true n x = refl
+      go false n x = either (eqb n unused)
+        where
+          either : (b : Bool) → No ≡ cond b No No
+          either true = refl
+          either false = refl
+
+-- the step, asked for in two: the neighbour, then the step over to it
+module _ (q : Polygon) (view : View) (i : ℕ) (part : Part) {n : ℕ} (e : n ≡ neighbourBy q view i (part .kind)) where
+  pub no-neighbour-no-step : n ≡ unused → No ≡ stepBy q view i part
+  unfolding stepBy
+  no-neighbour-no-step u = rw (← e, eq-eqb n unused u) refl
+
+  pub step-to-neighbour : (n ≡ unused → ⊥) → {p : Permitted} → p ≡ overBy q view i n part → p ≡ stepBy q view i part
+  unfolding stepBy
+  step-to-neighbour u x = rw (← e, ne-eqb n unused u) x

@@ -50,12 +50,20 @@ seenBy view kind interval =
     (cond (sameOf (turnedTo view kind) (view .node .root)) (clipOf (view .cone) interval)
     (Seen interval))
 
+-- the neighbour that a part of this kind of edge i may be stepped over to: at a wall, and where the kind is not allowed, there is none
+unfoldable pub neighbourBy : Polygon → View → ℕ → SuccessorType → ℕ
+neighbourBy q view i kind = cond (allowsOf view kind) (neighbour q i) unused
+
+-- the step over a part of edge i of the polygon that may be stepped over, to the neighbour n, or none
+unfoldable pub overBy : Polygon → View → ℕ → ℕ → Part → Permitted
+overBy q view i n part =
+    ifSeen (seenBy view (part .kind) (part .interval))
+    (λ interval.
+    cond (not (isInterval interval)) No
+    (Yes (record { kind = part .kind; polygon = n; first = corner q i; second = cornerAfter q i; interval = interval })))
+
 -- the step over a part of edge i of the polygon, or none
 unfoldable pub stepBy : Polygon → View → ℕ → Part → Permitted
 stepBy q view i part =
-    cond (eqb (neighbour q i) unused) No
-    (cond (not (allowsOf view (part .kind))) No
-    (ifSeen (seenBy view (part .kind) (part .interval))
-    (λ interval.
-    cond (not (isInterval interval)) No
-    (Yes (record { kind = part .kind; polygon = neighbour q i; first = corner q i; second = cornerAfter q i; interval = interval })))))
+    let n = neighbourBy q view i (part .kind) in
+    cond (eqb n unused) No (overBy q view i n part)

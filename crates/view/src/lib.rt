@@ -6,7 +6,7 @@ ghost use lib.ListN.{length};
 ghost use Rattle.stored.specs.Stored.{floorOf, polygonAt};
 ghost use Rattle.floor.specs.Where.{marksOf};
 ghost use Rattle.steps.specs.Steps.{isFinite, isInterval};
-ghost use Rattle.view.specs.View.{cornerOn, viewOf, allowsOf, turnedTo, seenBy, stepBy};
+ghost use Rattle.view.specs.View.{cornerOn, viewOf, allowsOf, turnedTo, seenBy, neighbourBy, overBy, stepBy};
 use cone::Clipped;
 use cone::Cone;
 use cut::SuccessorType;
@@ -151,21 +151,34 @@ impl View {
         Clipped::Seen(interval)
     }
 
-    // The step over a part of an edge of the node's polygon, or none.
-    pub fn step(self, polygons: &[u8], slots: usize, edge: usize, part: Part) -> Permitted
+    // The neighbour that a part of this kind of an edge may be stepped over to. At a wall, and where the kind is not allowed,
+    // there is none.
+    pub fn neighbour(self, polygons: &[u8], slots: usize, edge: usize, kind: SuccessorType) -> u32
         requires { ⌜ (slots ≤ 16) × (edge < slots) × (self .node .polygon < length (now polygons) / (slots * 8)) ⌝ }
-        ensures { λ r. ⌜ r ≡ stepBy (polygonAt slots (now (polygons .entry)) (self .node .polygon)) self edge part ⌝ }
+        ensures { λ r. ⌜ r ≡ neighbourBy (polygonAt slots (now (polygons .entry)) (self .node .polygon)) self edge kind ⌝ }
+    {
+        if self.allows(kind) {
+            let node = self.node;
+            return stored::neighbour(polygons, slots, node.polygon as usize, edge);
+        }
+        UNUSED
+    }
+
+    // The step over a part that may be stepped over, to this neighbour, or none.
+    pub fn over(
+        self,
+        polygons: &[u8],
+        slots: usize,
+        edge: usize,
+        neighbour: u32,
+        part: Part,
+    ) -> Permitted
+        requires { ⌜ (slots ≤ 16) × (edge < slots) × (self .node .polygon < length (now polygons) / (slots * 8)) ⌝ }
+        ensures { λ r. ⌜ r ≡ overBy (polygonAt slots (now (polygons .entry)) (self .node .polygon)) self edge neighbour part ⌝ }
     {
         let node = self.node;
         let p = node.polygon as usize;
-        let neighbour = stored::neighbour(polygons, slots, p, edge);
-        if neighbour == UNUSED {
-            return Permitted::No;
-        }
         let kind = part.kind;
-        if !self.allows(kind) {
-            return Permitted::No;
-        }
         let clipped = self.seen(kind, part.interval);
         match clipped {
             Clipped::Seen(interval) => {
@@ -184,6 +197,19 @@ impl View {
             }
             Clipped::Nothing => Permitted::No,
         }
+    }
+
+    // The step over a part of an edge of the node's polygon, or none.
+    pub fn step(self, polygons: &[u8], slots: usize, edge: usize, part: Part) -> Permitted
+        requires { ⌜ (slots ≤ 16) × (edge < slots) × (self .node .polygon < length (now polygons) / (slots * 8)) ⌝ }
+        ensures { λ r. ⌜ r ≡ stepBy (polygonAt slots (now (polygons .entry)) (self .node .polygon)) self edge part ⌝ }
+    {
+        let kind = part.kind;
+        let neighbour = self.neighbour(polygons, slots, edge, kind);
+        if neighbour == UNUSED {
+            return Permitted::No;
+        }
+        self.over(polygons, slots, edge, neighbour, part)
     }
 }
 

@@ -1,0 +1,31 @@
+use borrow.Author.Needs.{needs}
+use Rattle.view.specs.View.{neighbourBy}
+use Rattle.view.proofs.View.neighbour.Statement.{statement}
+use Rattle.view.proofs.View.neighbour.Tie as tie
+
+allows-requires : tie.Need-allows-requires
+allows-requires c κs = search needs
+
+cast-neighbour : tie.Need-cast-neighbour
+cast-neighbour c = search needs
+
+neighbour-requires : tie.Need-neighbour-requires
+neighbour-requires c κs = search needs
+
+returns : tie.Need-returns
+unfolding neighbourBy
+returns c =
+    let c3 = c .before .before .before in
+    let c4 = c3 .before in
+    rw (← c4 .allows .ensures, c3 .if1 .taken, ← c .neighbour .ensures)
+
+returns-2 : tie.Need-returns-2
+unfolding neighbourBy
+returns-2 c =
+    let c1 = c .before in
+    rw (← c1 .allows .ensures, c .if1 .left)
+
+pub neighbour-spec : {M : Type 1} → statement M
+neighbour-spec =
+    tie.close
+    (tie.spec allows-requires cast-neighbour neighbour-requires returns returns-2)
