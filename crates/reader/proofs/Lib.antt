@@ -1,0 +1,3 @@
+-- What the reader's proofs share, and the laws of the reader that belong to no one function.
+pub mod Apart
+pub mod Passed

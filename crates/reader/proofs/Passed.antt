@@ -1,0 +1,60 @@
+-- "A reader walks the caller's route bytes one record at a time": which record it stands at after so many, and that behind the last record there is none.
+-- Rests on the laws of a record's bytes. Assumes nothing.
+use Prim.Native.Nat.{ℕ, zero, suc, _+_, _-_, _*_, _/_, _≤_}
+use native.Mathlib.Numerals.{add-one}
+use native.Mathlib.Nat.{zero-add, suc-add}
+use native.Mathlib.Omega.{arith}
+use mathlib.Core.Path.{_≡_, refl, ap, _∙_}
+use mathlib.Core.Bool.{Bool, true, false, cond}
+use mathlib.Core.List.{List}
+use borrow.Author.Tests.{lt-ltb, le-ltb, ltb-true, ltb-false}
+use lib.Dec.{ltb}
+use lib.ListN.{length, drop, length-take, length-drop}
+use denote.Ref.{RefT, now}
+use Rattle.route.specs.Record.{recordAt, records}
+use Rattle.route.proofs.Bytes.{length-wordsBytes}
+use Rattle.route.proofs.Find.{other-of}
+use Rattle.records.specs.declared.Record.{Record}
+use Rattle.records.specs.Records.{recordBytes}
+use Rattle.reader.specs.declared.Reader.{Reader}
+use Rattle.reader.specs.Reading.{isRecord, recordsFrom, numberAfter, firstOf, nextOf}
+
+-- ---- behind the last record
+
+-- a file that ends before the last of its 32 bytes has not this record
+pub none-behind : (sought : Record) (file : List ℕ) (i : ℕ) → length (sought .words) ≡ 8 → length file / 32 ≤ i → isRecord file i sought ≡ false
+unfolding isRecord recordAt recordBytes
+none-behind sought file i eight h =
+    other-of _ _
+    (λ same. let n : length (recordAt file i) ≡ length (recordBytes sought) = ap length same in
+    omega (arith, n, length-take 32 (drop (i * 32) file), length-drop (i * 32) file, length-wordsBytes (sought .words), eight))
+
+-- ---- one record at a time
+
+-- the reader of a file after so many records
+pub passed : RefT (List ℕ) → ℕ → Reader
+passed route zero = firstOf route
+passed route (suc k) = nextOf (passed route k)
+
+-- up to the last record each step leads to the one after, so that none is left out and none comes twice
+pub stands-at-each : (route : RefT (List ℕ)) (k : ℕ) → k ≤ records (now route) → passed route k ≡ record { route = route; number = k }
+unfolding passed numberAfter
+stands-at-each route zero h = refl
+stands-at-each route (suc k) h = rw (stands-at-each route k (omega arith), lt-ltb k (records (now route)) h, add-one)
+
+-- behind the last record the reader stays
+pub stays-behind : (route : RefT (List ℕ)) (k : ℕ) → passed route (k + records (now route)) ≡ record { route = route; number = records (now route) }
+unfolding passed numberAfter
+stays-behind route zero = ap (passed route) (zero-add (records (now route))) ∙ stands-at-each route (records (now route)) (omega arith)
+stays-behind route (suc k) =
+    let n = records (now route) in
+    ap (passed route) (suc-add k n) ∙ rw (stays-behind route k, le-ltb n n (omega arith))
+
+-- each step leaves one record fewer, until none is left
+pub one-fewer : (file : List ℕ) (i : ℕ) → recordsFrom file (numberAfter file i) ≡ recordsFrom file i - 1
+unfolding recordsFrom numberAfter
+one-fewer file i = by-test (ltb i (records file)) refl
+  where
+    by-test : (t : Bool) → ltb i (records file) ≡ t → records file - cond t (i + 1) i ≡ records file - i - 1
+    by-test true e = omega (arith, ltb-true i (records file) e)
+    by-test false e = omega (arith, ltb-false i (records file) e)

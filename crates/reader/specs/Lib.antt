@@ -1,0 +1,2 @@
+-- What a reader of a route file sees, and where it goes.
+pub mod Reading
