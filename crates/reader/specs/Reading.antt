@@ -3,7 +3,7 @@
 use Prim.Native.Nat.{ℕ, _+_, _-_}
 use mathlib.Core.Bool.{Bool, cond}
 use mathlib.Core.List.{List}
-use lib.Dec.{ltb}
+use lib.Dec.{eqb}
 use denote.Ref.{RefT, now}
 use Rattle.route.specs.Record.{recordAt, records}
 use Rattle.route.specs.Judge.{sameBytes}
@@ -21,9 +21,9 @@ isRecord file i sought = sameBytes (recordAt file i) (recordBytes sought)
 unfoldable pub recordsFrom : List ℕ → ℕ → ℕ
 recordsFrom file i = records file - i
 
--- "one record at a time": the number after this one; behind the last record it stays
+-- "one record at a time": the number after this one; where no record is left it stays
 unfoldable pub numberAfter : List ℕ → ℕ → ℕ
-numberAfter file i = cond (ltb i (records file)) (i + 1) i
+numberAfter file i = cond (eqb (recordsFrom file i) 0) i (i + 1)
 
 -- ---- a reader
 

@@ -3,33 +3,13 @@
 // the bytes and the number, and whoever has plain bytes calls `begins_with`, which asks for no such proof.
 
 ghost use mathlib.Core.Path.{_≡_};
-ghost use Rattle.reader.specs.Reading.{firstOf, isRecord, numberAfter, recordsFrom, nextOf};
+ghost use Rattle.reader.specs.Reading.{isRecord, recordsFrom, numberAfter, firstOf, nextOf};
 use records::Record;
 
 // The caller's route bytes, and the number of the record at which the reader stands.
 pub struct Reader<'a> {
     route: &'a [u8],
     number: usize,
-}
-
-// Whether the record with this number is this one, byte for byte. Where there is no such record, it is none.
-fn is_record(route: &[u8], number: usize, sought: Record) -> bool
-    ensures { λ r. ⌜ r ≡ isRecord (now (route .entry)) number sought ⌝ }
-{
-    if number < route.len() / Record::BYTES {
-        return sought.is_at(route, number);
-    }
-    false
-}
-
-// The number after this one. Behind the last record it stays, so that it never wraps.
-fn number_after(route: &[u8], number: usize) -> usize
-    ensures { λ r. ⌜ r ≡ numberAfter (now (route .entry)) number ⌝ }
-{
-    if number < route.len() / Record::BYTES {
-        return number + 1;
-    }
-    number
 }
 
 // How many whole records there are from this number on.
@@ -41,6 +21,26 @@ fn records_from(route: &[u8], number: usize) -> usize
         return count - number;
     }
     0
+}
+
+// Whether the record with this number is this one, byte for byte. Where no record is left, none is.
+fn is_record(route: &[u8], number: usize, sought: Record) -> bool
+    ensures { λ r. ⌜ r ≡ isRecord (now (route .entry)) number sought ⌝ }
+{
+    if records_from(route, number) == 0 {
+        return false;
+    }
+    sought.is_at(route, number)
+}
+
+// The number after this one. Where no record is left it stays, so that it never wraps.
+fn number_after(route: &[u8], number: usize) -> usize
+    ensures { λ r. ⌜ r ≡ numberAfter (now (route .entry)) number ⌝ }
+{
+    if records_from(route, number) == 0 {
+        return number;
+    }
+    number + 1
 }
 
 impl<'a> Reader<'a> {
@@ -65,7 +65,7 @@ impl<'a> Reader<'a> {
         records_from(self.route, self.number)
     }
 
-    // The reader at the next record; behind the last one it stays.
+    // The reader at the next record. Behind the last one it stays.
     pub fn next(self) -> Reader<'a>
         ensures { λ r. ⌜ r ≡ nextOf (self .entry) ⌝ }
     {

@@ -35,7 +35,6 @@ use denote.Triple.Table.{entered}
 use denote.Triple.Walked.{says, Stays, stay-none-slice, walkOf, goes-none-slice, Walks, ends-at, walked, walk-meets}
 use denote.Exit.{yes}
 use Rattle.reader.specs.declared.Reader.{Reader}
-use Rattle.reader.specs.Reading.{firstOf}
 use Rattle.reader.proofs.Reader as T
 use Rattle.reader.proofs.Reader.Laws as T′
 use Rattle.reader.proofs.Reader.new.Key.{name as #new}
@@ -55,7 +54,7 @@ module _ {M : Type 1} (𝓤 : URA M) (H : Heap 𝓤) (A : Atoms 𝓤) (W : Given
   bytes = sliceVal (route .ptr) (length (route .now))
 
   abbrev made : Reader
-  made = firstOf route
+  made = record { route = route; number = 0 }
 
   abbrev at : Vals new.signature (κ, tt)
   at = (bytes ∷ [], tt)
