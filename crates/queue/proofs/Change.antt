@@ -1,5 +1,5 @@
 -- A push or a removal: place i's own word changes, and with the path above it repaired the words are the tree again, of the set that is meant. All words are
--- right but the one that is repaired next. Assumes nothing.
+-- right but the one that is repaired next, and where that one stays what it was all are right. Assumes nothing.
 use Prim.Native.Nat.{ℕ, zero, suc, _+_, _*_, _/_, _≤_, _<_}
 use native.Mathlib.Omega.{arith}
 use native.Mathlib.Decide.{ℕ-discrete}
@@ -7,13 +7,13 @@ use mathlib.Core.Path.{_≡_, refl, sym, ap, ap₂, _∙_, subst}
 use mathlib.Core.Bool.{Bool, true, false, cond}
 use mathlib.Core.Logic.{_⊎_, inl, inr, ⊎-elim}
 use mathlib.Core.List.{List, _++_}
-use borrow.Author.Tests.{eq-eqb, ne-eqb}
+use borrow.Author.Tests.{eq-eqb, ne-eqb, eqb-true}
 use lib.Dec.{eqb}
 use lib.ListN.{length, getD, set, drop, length-set}
-use lib.Seq.{getD-set-same, getD-set-other, drop-set-lt, drop-at}
+use lib.Seq.{getD-set-same, getD-set-other, set-getD, drop-set-lt, drop-at}
 use lib.Ieee.{Float}
 use Rattle.queue.specs.Queue.{none, better, ownOf, put, Tree, treeWords}
-use Rattle.queue.specs.Words.{queuedIn, repaired, climbed, placed}
+use Rattle.queue.specs.Words.{queuedIn, repaired, stays, climbed, placed}
 use Rattle.queue.proofs.Words.{words-length, tree-is, is-tree, tree-same}
 
 -- ---- right but for one word
@@ -35,6 +35,12 @@ rest : (f : ℕ → Float) (n : ℕ) (t : List ℕ) (m w k : ℕ) → (k ≡ m �
 rest f n t m w k a b h =
     other t m w k a ∙ h
     ∙ sym (ap₂ (better f n) (other t m w (2 * k) (λ e. b (omega arith))) (other t m w (2 * k + 1) (λ e. b (omega arith))))
+
+-- what a repair makes of its word
+pub repaired-word : (f : ℕ → Float) (n k : ℕ) (t : List ℕ) → k < length t
+    → getD (repaired f n k t) k 0 ≡ better f n (getD t (2 * k) 0) (getD t (2 * k + 1) 0)
+unfolding repaired
+repaired-word f n k t l = getD-set-same t k (better f n (getD t (2 * k) 0) (getD t (2 * k + 1) 0)) 0 l
 
 -- after word n + i was stored only the word above it may be wrong
 module _ (f : ℕ → Float) (n : ℕ) (q p : ℕ → Bool) (i w : ℕ) (t : List ℕ) (l : i < n) (v : w ≡ ownOf i (p i))
@@ -88,15 +94,36 @@ module _ (f : ℕ → Float) (n : ℕ) (q : ℕ → Bool) where
     inner = λ k z l. ⊎-elim (λ g. absurd (omega arith)) (λ g. g) (e .inner k z l);
   }
 
+  -- on words that are right but for word k, a repair of k that leaves it what it was changes no word and leaves all right
+  pub stays-right : (k : ℕ) (t : List ℕ) → k < n → Except f n q t k → stays f n k t ≡ true → Tree f n q (repaired f n k t)
+  unfolding repaired
+  stays-right k t l e s = subst (λ (v : List ℕ). Tree f n q v) (sym (ap (set t k) (sym same) ∙ set-getD t k 0)) all
+    where
+      w : ℕ
+      w = better f n (getD t (2 * k) 0) (getD t (2 * k + 1) 0)
+
+      same : getD t k 0 ≡ w
+      same = sym (eqb-true (getD (set t k w) k 0) (getD t k 0) s) ∙ repaired-word f n k t (omega (arith, e .size))
+
+      all : Tree f n q t
+      all = record {
+        size = e .size;
+        unused = e .unused;
+        own = e .own;
+        inner = λ m z h. ⊎-elim (λ g. rw g same) (λ g. g) (e .inner m z h);
+      }
+
   climbs : (d k : ℕ) (t : List ℕ) → k ≤ d → k < n → Except f n q t k → Tree f n q (climbed f n d k t)
   unfolding climbed
   climbs zero k t h l e = finishes t (subst (λ (v : ℕ). Except f n q t v) (omega arith) e)
-  climbs (suc d) k t h l e = go (climbs d (k / 2) (repaired f n k t)) (ℕ-discrete k 0)
+  climbs (suc d) k t h l e = go (climbs d (k / 2) (repaired f n k t)) (ℕ-discrete k 0) (stays f n k t) refl
     where
       go : (k / 2 ≤ d → k / 2 < n → Except f n q (repaired f n k t) (k / 2) → Tree f n q (climbed f n d (k / 2) (repaired f n k t)))
-          → Dec (k ≡ 0) → Tree f n q (cond (eqb k 0) t (climbed f n d (k / 2) (repaired f n k t)))
-      go r (yes g) = rw (eq-eqb k 0 g) (finishes t (subst (λ (v : ℕ). Except f n q t v) g e))
-      go r (no g) = rw (ne-eqb k 0 g) (r (omega arith) (omega arith) (turns k t (omega arith) l e))
+          → Dec (k ≡ 0) → (s : Bool) → stays f n k t ≡ s
+          → Tree f n q (cond (eqb k 0) t (cond s (repaired f n k t) (climbed f n d (k / 2) (repaired f n k t))))
+      go r (yes g) s i = rw (eq-eqb k 0 g) (finishes t (subst (λ (v : ℕ). Except f n q t v) g e))
+      go r (no g) true i = rw (ne-eqb k 0 g) (stays-right k t l e i)
+      go r (no g) false i = rw (ne-eqb k 0 g) (r (omega arith) (omega arith) (turns k t (omega arith) l e))
 
 -- ---- one path
 
@@ -106,12 +133,16 @@ unfolding climbed
 climb-levels f n zero zero k t h g = refl
 climb-levels f n zero (suc e) k t h g = rw (eq-eqb k 0 (omega arith))
 climb-levels f n (suc d) zero k t h g = rw (eq-eqb k 0 (omega arith))
-climb-levels f n (suc d) (suc e) k t h g = go (climb-levels f n d e (k / 2) (repaired f n k t)) (ℕ-discrete k 0)
+climb-levels f n (suc d) (suc e) k t h g = go (climb-levels f n d e (k / 2) (repaired f n k t)) (ℕ-discrete k 0) (stays f n k t)
   where
-    go : (k / 2 ≤ d → k / 2 ≤ e → climbed f n d (k / 2) (repaired f n k t) ≡ climbed f n e (k / 2) (repaired f n k t)) → Dec (k ≡ 0)
-        → cond (eqb k 0) t (climbed f n d (k / 2) (repaired f n k t)) ≡ cond (eqb k 0) t (climbed f n e (k / 2) (repaired f n k t))
-    go r (yes z) = rw (eq-eqb k 0 z)
-    go r (no z) = rw (ne-eqb k 0 z) (r (omega arith) (omega arith))
+    after : List ℕ
+    after = repaired f n k t
+
+    go : (k / 2 ≤ d → k / 2 ≤ e → climbed f n d (k / 2) after ≡ climbed f n e (k / 2) after) → Dec (k ≡ 0) → (s : Bool)
+        → cond (eqb k 0) t (cond s after (climbed f n d (k / 2) after)) ≡ cond (eqb k 0) t (cond s after (climbed f n e (k / 2) after))
+    go r (yes z) s = rw (eq-eqb k 0 z)
+    go r (no z) true = rw (ne-eqb k 0 z)
+    go r (no z) false = rw (ne-eqb k 0 z) (r (omega arith) (omega arith))
 
 pub repaired-length : (f : ℕ → Float) (n k : ℕ) (t : List ℕ) → length (repaired f n k t) ≡ length t
 unfolding repaired
@@ -120,35 +151,57 @@ repaired-length f n k t = length-set t k (better f n (getD t (2 * k) 0) (getD t 
 climbed-length : (f : ℕ → Float) (n d k : ℕ) (t : List ℕ) → length (climbed f n d k t) ≡ length t
 unfolding climbed
 climbed-length f n zero k t = refl
-climbed-length f n (suc d) k t = go (eqb k 0) (climbed-length f n d (k / 2) (repaired f n k t) ∙ repaired-length f n k t)
+climbed-length f n (suc d) k t = go (eqb k 0) (stays f n k t) (climbed-length f n d (k / 2) (repaired f n k t) ∙ repaired-length f n k t)
   where
-    go : (s : Bool) → length (climbed f n d (k / 2) (repaired f n k t)) ≡ length t → length (cond s t (climbed f n d (k / 2) (repaired f n k t))) ≡ length t
-    go true h = refl
-    go false h = h
+    after : List ℕ
+    after = repaired f n k t
+
+    go : (s u : Bool) → length (climbed f n d (k / 2) after) ≡ length t → length (cond s t (cond u after (climbed f n d (k / 2) after))) ≡ length t
+    go true u h = refl
+    go false true h = repaired-length f n k t
+    go false false h = h
 
 climbed-rest : (f : ℕ → Float) (n d k : ℕ) (t : List ℕ) → k < n → drop (2 * n) (climbed f n d k t) ≡ drop (2 * n) t
 unfolding climbed repaired
 climbed-rest f n zero k t l = refl
-climbed-rest f n (suc d) k t l = go (eqb k 0) (climbed-rest f n d (k / 2) (repaired f n k t) (omega arith))
+climbed-rest f n (suc d) k t l = go (eqb k 0) (stays f n k t) (climbed-rest f n d (k / 2) (repaired f n k t) (omega arith))
   where
-    go : (s : Bool) → drop (2 * n) (climbed f n d (k / 2) (repaired f n k t)) ≡ drop (2 * n) (repaired f n k t)
-        → drop (2 * n) (cond s t (climbed f n d (k / 2) (repaired f n k t))) ≡ drop (2 * n) t
-    go true r = refl
-    go false r = r ∙ drop-set-lt (2 * n) t k (better f n (getD t (2 * k) 0) (getD t (2 * k + 1) 0)) (omega arith)
+    after : List ℕ
+    after = repaired f n k t
 
-one-turn : (f : ℕ → Float) (n d k : ℕ) (t : List ℕ) → 0 < k → climbed f n (suc d) k t ≡ climbed f n d (k / 2) (repaired f n k t)
+    one : drop (2 * n) after ≡ drop (2 * n) t
+    one = drop-set-lt (2 * n) t k (better f n (getD t (2 * k) 0) (getD t (2 * k + 1) 0)) (omega arith)
+
+    go : (s u : Bool) → drop (2 * n) (climbed f n d (k / 2) after) ≡ drop (2 * n) after
+        → drop (2 * n) (cond s t (cond u after (climbed f n d (k / 2) after))) ≡ drop (2 * n) t
+    go true u r = refl
+    go false true r = one
+    go false false r = r ∙ one
+
+one-turn : (f : ℕ → Float) (n d k : ℕ) (t : List ℕ) → 0 < k
+    → climbed f n (suc d) k t ≡ cond (stays f n k t) (repaired f n k t) (climbed f n d (k / 2) (repaired f n k t))
 unfolding climbed
 one-turn f n d k t z = rw (ne-eqb k 0 (omega arith))
 
--- a turn of the loop
-pub climb-turn : (f : ℕ → Float) (n k : ℕ) (t : List ℕ) → 0 < k → climbed f n k k t ≡ climbed f n (k / 2) (k / 2) (repaired f n k t)
-climb-turn f n k t z = go k refl
+-- a turn of the loop, after which the climb goes on
+pub climb-turn : (f : ℕ → Float) (n k : ℕ) (t : List ℕ) → 0 < k → stays f n k t ≡ false
+    → climbed f n k k t ≡ climbed f n (k / 2) (k / 2) (repaired f n k t)
+climb-turn f n k t z s = go k refl
   where
     go : (d : ℕ) → k ≡ d → climbed f n d k t ≡ climbed f n (k / 2) (k / 2) (repaired f n k t)
     go zero e = absurd (omega arith)
-    go (suc d) e = one-turn f n d k t (omega arith) ∙ climb-levels f n d (k / 2) (k / 2) (repaired f n k t) (omega arith) (omega arith)
+    go (suc d) e =
+        rw s at (one-turn f n d k t z) ∙ climb-levels f n d (k / 2) (k / 2) (repaired f n k t) (omega arith) (omega arith)
 
--- and where it ends
+-- one after which it stops
+pub climb-stop : (f : ℕ → Float) (n k : ℕ) (t : List ℕ) → 0 < k → stays f n k t ≡ true → climbed f n k k t ≡ repaired f n k t
+climb-stop f n k t z s = go k refl
+  where
+    go : (d : ℕ) → k ≡ d → climbed f n d k t ≡ repaired f n k t
+    go zero e = absurd (omega arith)
+    go (suc d) e = rw s at (one-turn f n d k t z)
+
+-- and where the path ends
 pub climb-end : (f : ℕ → Float) (n : ℕ) (t : List ℕ) → climbed f n 0 0 t ≡ t
 unfolding climbed
 climb-end f n t = refl
@@ -209,15 +262,18 @@ tree-of-own f n q t few e = tree-same f f n q (queuedIn n t) few (λ i l. sym (q
 climbed-own : (f : ℕ → Float) (n d k : ℕ) (t : List ℕ) → k < n → (m : ℕ) → n ≤ m → getD (climbed f n d k t) m 0 ≡ getD t m 0
 unfolding climbed repaired
 climbed-own f n zero k t l m h = refl
-climbed-own f n (suc d) k t l m h = go (eqb k 0) (climbed-own f n d (k / 2) (repaired f n k t) (omega arith) m h)
+climbed-own f n (suc d) k t l m h = go (eqb k 0) (stays f n k t) (climbed-own f n d (k / 2) (repaired f n k t) (omega arith) m h)
   where
-    w : ℕ
-    w = better f n (getD t (2 * k) 0) (getD t (2 * k + 1) 0)
+    after : List ℕ
+    after = repaired f n k t
 
-    go : (s : Bool) → getD (climbed f n d (k / 2) (repaired f n k t)) m 0 ≡ getD (repaired f n k t) m 0
-        → getD (cond s t (climbed f n d (k / 2) (repaired f n k t))) m 0 ≡ getD t m 0
-    go true r = refl
-    go false r = r ∙ other t k w m (λ e. omega arith)
+    one : getD after m 0 ≡ getD t m 0
+    one = other t k (better f n (getD t (2 * k) 0) (getD t (2 * k + 1) 0)) m (λ e. omega arith)
+
+    go : (s u : Bool) → getD (climbed f n d (k / 2) after) m 0 ≡ getD after m 0 → getD (cond s t (cond u after (climbed f n d (k / 2) after))) m 0 ≡ getD t m 0
+    go true u r = refl
+    go false true r = one
+    go false false r = r ∙ one
 
 -- whatever the words were, place i's queuing is what was put, and the other places' is as it was
 pub placed-queued : (f : ℕ → Float) (n i : ℕ) (b : Bool) (t : List ℕ) → n ≤ none → 2 * n ≤ length t → i < n → (j : ℕ) → j < n

@@ -38,12 +38,17 @@ cleared m t = replicate m none ++ drop m t
 unfoldable pub repaired : (ℕ → Float) → ℕ → ℕ → List ℕ → List ℕ
 repaired f n k t = set t k (better f n (getD t (2 * k) 0) (getD t (2 * k + 1) 0))
 
--- word k repaired, then the one above it, up to word 1: d of them at most
+-- whether the repair leaves word k what it was
+abbrev pub stays : (ℕ → Float) → ℕ → ℕ → List ℕ → Bool
+stays f n k t = eqb (getD (repaired f n k t) k 0) (getD t k 0)
+
+-- word k repaired, then the one above it, up to word 1 or to a word that stays what it was: d of them at most
 unfoldable pub climbed : (ℕ → Float) → ℕ → ℕ → ℕ → List ℕ → List ℕ
 climbed f n zero k t = t
 climbed f n (suc d) k t =
-    let above = climbed f n d (k / 2) (repaired f n k t) in
-    cond (eqb k 0) t above
+    let after = repaired f n k t in
+    let above = climbed f n d (k / 2) after in
+    cond (eqb k 0) t (cond (stays f n k t) after above)
 
 -- place i's own word says whether it is queued, and the path above it is repaired
 unfoldable pub placed : (ℕ → Float) → ℕ → ℕ → Bool → List ℕ → List ℕ

@@ -8,7 +8,7 @@ ghost use Prim.Native.Nat.{ℕ, _+_, _*_, _≤_, _<_};
 ghost use lib.Ieee.{Float};
 ghost use lib.ListN.{length, getD};
 ghost use Rattle.queue.specs.Queue.{none, before, better, ownOf, put, leastOf, NoNan, Empty, Tree};
-ghost use Rattle.queue.specs.Words.{column, Rows, Room, cleared, repaired, climbed, placed};
+ghost use Rattle.queue.specs.Words.{column, Rows, Room, cleared, repaired, stays, climbed, placed};
 
 // The word that stands for no place.
 pub const NONE: u32 = 0xFFFF_FFFF;
@@ -48,18 +48,22 @@ fn better(fs: &[f32], stride: usize, at: usize, n: usize, a: u32, b: u32) -> u32
     b
 }
 
-// Makes word k the better of its two.
-fn repair(tree: &mut [u32], fs: &[f32], stride: usize, at: usize, n: usize, k: usize)
+// Makes word k the better of its two, and answers whether it stays what it was.
+fn repair(tree: &mut [u32], fs: &[f32], stride: usize, at: usize, n: usize, k: usize) -> bool
     requires { ⌜ Rows n stride at (now fs) ⌝ }
     requires { ⌜ (2 * n ≤ length (now tree)) × (k < n) ⌝ }
-    ensures { λ _. ⌜ now (tree .exit) ≡ repaired (column (now (fs .entry)) stride at) n k (now (tree .entry)) ⌝ }
+    ensures words { λ _. ⌜ now (tree .exit) ≡ repaired (column (now (fs .entry)) stride at) n k (now (tree .entry)) ⌝ }
+    ensures answer { λ r. ⌜ r ≡ stays (column (now (fs .entry)) stride at) n k (now (tree .entry)) ⌝ }
 {
     let a = tree[2 * k];
     let b = tree[2 * k + 1];
-    tree[k] = better(fs, stride, at, n, a, b);
+    let w = better(fs, stride, at, n, a, b);
+    let was = tree[k];
+    tree[k] = w;
+    w == was
 }
 
-// Repairs word k, then the one above it, up to word 1.
+// Repairs word k, then the one above it, up to word 1. It ends at a word that stays what it was: every word above that is right as it is.
 fn climb(tree: &mut [u32], fs: &[f32], stride: usize, at: usize, n: usize, from: usize)
     requires { ⌜ Rows n stride at (now fs) ⌝ }
     requires { ⌜ (2 * n ≤ length (now tree)) × (from < n) ⌝ }
@@ -67,7 +71,9 @@ fn climb(tree: &mut [u32], fs: &[f32], stride: usize, at: usize, n: usize, from:
 {
     let mut k = from;
     while 0 < k {
-        repair(tree, fs, stride, at, n, k);
+        if repair(tree, fs, stride, at, n, k) {
+            return;
+        }
         k = k / 2;
     }
 }

@@ -5,7 +5,7 @@ use mathlib.Core.Path.{_≡_, refl, sym, ap, _∙_}
 use lib.ListN.{length}
 use denote.Ref.{now}
 use Rattle.queue.specs.Words.{column, climbed}
-use Rattle.queue.proofs.Change.{repaired-length, climb-turn, climb-end}
+use Rattle.queue.proofs.Change.{repaired-length, climb-turn, climb-stop, climb-end}
 use Rattle.queue.proofs.climb.Statement.{statement}
 use Rattle.queue.proofs.climb.Tie as tie
 
@@ -23,22 +23,40 @@ repair-requires : tie.Need-repair-requires Inv-loop μ-loop
 repair-requires c κs =
     (c .before .before .before .before .before .pre .0, (rw (c .before .before .loop .inv .1) (c .before .before .before .before .before .pre .1 .0), c .before .before .loop .inv .0))
 
+same-length : tie.Need-same-length Inv-loop μ-loop
+same-length c =
+    let l = c .before .before .before .before .before .before .loop in
+    let s = c .before .before .before .before .before .before .before .before .before in
+    let f = column (now (s .args .fs)) (s .args .stride) (s .args .at) in
+    rw (c .before .before .before .repair .ensures .0) (repaired-length f (s .args .n) (l .k) (l .tree) ∙ l .inv .1)
+
+returns : tie.Need-returns Inv-loop μ-loop
+returns c =
+    let l = c .before .before .before .before .before .before .loop in
+    let s = c .before .before .before .before .before .before .before .before .before in
+    let f = column (now (s .args .fs)) (s .args .stride) (s .args .at) in
+    let e = c .before .before .before .repair .ensures in
+    rw (e .0) (sym (l .inv .2 ∙ climb-stop f (s .args .n) (l .k) (l .tree) (omega arith) (rw (e .1) at (c .if1 .taken))))
+
 loop-less : tie.Need-loop-less Inv-loop μ-loop
 loop-less c = omega arith
 
 loop-again : tie.Need-loop-again Inv-loop μ-loop
 loop-again c =
-    let l = c .before .before .before .before .before .loop in
-    let s = c .before .before .before .before .before .before .before .before in
+    let l = c .before .before .before .before .before .before .loop in
+    let s = c .before .before .before .before .before .before .before .before .before in
     let f = column (now (s .args .fs)) (s .args .stride) (s .args .at) in
-    let e = c .before .before .repair .ensures in
-    (omega arith, rw e (repaired-length f (s .args .n) (l .k) (l .tree) ∙ l .inv .1), rw e (l .inv .2 ∙ climb-turn f (s .args .n) (l .k) (l .tree) (omega arith)))
+    let e = c .before .before .before .repair .ensures in (
+      omega arith,
+      rw (e .0) (repaired-length f (s .args .n) (l .k) (l .tree) ∙ l .inv .1),
+      rw (e .0) (l .inv .2 ∙ climb-turn f (s .args .n) (l .k) (l .tree) (omega arith) (rw (e .1) at (c .if1 .left))),
+    )
 
-same-length : tie.Need-same-length Inv-loop μ-loop
-same-length c = c .before .loop .inv .1
+same-length-2 : tie.Need-same-length-2 Inv-loop μ-loop
+same-length-2 c = c .before .loop .inv .1
 
-returns : tie.Need-returns Inv-loop μ-loop
-returns c =
+returns-2 : tie.Need-returns-2 Inv-loop μ-loop
+returns-2 c =
     let l = c .before .loop in
     let s = c .before .before .before .before in
     let f = column (now (s .args .fs)) (s .args .stride) (s .args .at) in
@@ -48,4 +66,14 @@ returns c =
 pub climb-spec : {M : Type 1} → statement M
 climb-spec =
     tie.close
-    (tie.spec Inv-loop μ-loop loop-holds repair-requires loop-less loop-again same-length returns)
+    (tie.spec
+    Inv-loop
+    μ-loop
+    loop-holds
+    repair-requires
+    same-length
+    returns
+    loop-less
+    loop-again
+    same-length-2
+    returns-2)

@@ -1,5 +1,8 @@
 -- `queue::repair` meets its contract. Assumes nothing.
-use Rattle.queue.specs.Words.{repaired}
+use native.Mathlib.Omega.{arith}
+use denote.Ref.{now}
+use Rattle.queue.specs.Words.{column, repaired}
+use Rattle.queue.proofs.Change.{repaired-word}
 use borrow.Author.Needs.{needs}
 use Rattle.queue.proofs.repair.Statement.{statement}
 use Rattle.queue.proofs.repair.Tie as tie
@@ -28,6 +31,12 @@ slice-read-b c = search needs
 better-requires : tie.Need-better-requires
 better-requires c κs = search needs
 
+mul-was : tie.Need-mul-was
+mul-was c = search needs
+
+slice-read-was : tie.Need-slice-read-was
+slice-read-was c = search needs
+
 mul-tree : tie.Need-mul-tree
 mul-tree c = search needs
 
@@ -39,7 +48,12 @@ same-length c = search needs
 
 returns : tie.Need-returns
 unfolding repaired
-returns c = rw (c .better .ensures)
+returns c =
+    let s = c .before .before .before .before .before .before in
+    let f = column (now (s .args .fs)) (s .args .stride) (s .args .at) in
+    let t = now (s .args .tree) in
+    let word = repaired-word f (s .args .n) (s .args .k) t (omega arith) in
+    (rw (c .before .better .ensures), rw (c .before .better .ensures, word))
 
 pub repair-spec : {M : Type 1} → statement M
 repair-spec =
@@ -53,6 +67,8 @@ repair-spec =
     mul-b-2
     slice-read-b
     better-requires
+    mul-was
+    slice-read-was
     mul-tree
     slice-write-tree
     same-length
