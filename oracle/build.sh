@@ -1,6 +1,9 @@
-# Sourced by run and sample: the packages, the workspace in target/oracle/crates, and the builds in it.
-# Wants: here (this folder), root (the repository), folder (the extract).
+# Sourced by each script here and by those of bench, campaign and examples: the packages, the proved libraries, the workspace in
+# target/oracle/crates, and the builds in it. The extract's folder is the script's first argument.
 
+here=$(cd "$(dirname "${BASH_SOURCE[0]}")" && pwd)
+root=$(dirname "$here")
+folder=${1:-$root/../shared/docs/src}
 out=$root/target/oracle
 crates=$out/crates
 processor=$(uname -m)
@@ -25,6 +28,32 @@ install_missing() { # PACKAGE...
     as_root apt-get update -qq
     as_root env DEBIAN_FRONTEND=noninteractive apt-get install -qq --no-install-recommends "${missing[@]}" >"$out/apt.log" 2>&1 ||
         fail "apt-get could not install them ($out/apt.log says why)"
+}
+
+# The libraries for C, in target/staticlib.
+prove_libraries() { # CRATE...
+    local crate
+    for crate in "$@"; do
+        (cd "$root" && rt staticlib "$crate") >"$out/$crate.log" 2>&1 || fail "$crate is not proved ($out/$crate.log says why)"
+    done
+}
+
+# A C compiler for x86-64, for which alone rt writes a library. On another processor the kit's emulator runs its programs.
+install_c() {
+    emulator='' compiler=gcc
+    if [ "$processor" = x86_64 ]; then
+        install_missing gcc libc6-dev
+        return
+    fi
+    local kit=${RATTLE_HOME:-$(dirname "$(dirname "$(readlink -f "$(command -v rt)")")")}
+    emulator=$kit/on/$processor/toolchain/bin/qemu-x86_64
+    [ -x "$emulator" ] || fail "the kit has no emulator of x86-64 for $processor"
+    install_missing gcc-x86-64-linux-gnu libc6-dev-amd64-cross
+    compiler=x86_64-linux-gnu-gcc
+}
+
+compile() { # PROGRAM SOURCE LIBRARY
+    "$compiler" -std=c99 -O2 -static -Wall -Wextra -Wpedantic -I "$root/include" -o "$1" "$2" "$root/target/staticlib/lib$3.a"
 }
 
 # Debian 12 has a current compiler under the name rustc-web; later releases have it as rustc.
@@ -121,11 +150,32 @@ build() { # CARGO ARGUMENTS
     (cd "$crates" && RUSTC=$rustc CARGO_TARGET_DIR=$out/cargo "$cargo" build --quiet --offline --release "$@")
 }
 
+# A program of the harness for x86-64, over the libraries.
+build_linked() { # PROGRAM
+    STATICLIB=$root/target/staticlib build --target x86_64-unknown-linux-gnu --bin "$1"
+    program=$out/cargo/x86_64-unknown-linux-gnu/release/$1
+}
+
+# A program that stands in a folder of its own, over the harness and the library cart_c.
+build_beside() { # FOLDER
+    install_rust
+    install_x86
+    prove_libraries cart_c
+    lay_workspace
+    cp -r "$root/$1/src" "$crates/harness/src/bin/$1"
+    build_linked "$1"
+}
+
 # Every instruction of a run, counted one by one: by valgrind on x86-64, elsewhere by the emulator's own trace.
 instructions() { # PROGRAM WORDS...
-    if [ "$processor" = x86_64 ]; then
+    if [ -z "$emulator" ]; then
+        install_missing valgrind >&2
         valgrind --tool=callgrind --callgrind-out-file=/dev/null "$@" 2>&1 >/dev/null | sed -n 's/^.* Collected : //p'
     else
         "$emulator" -one-insn-per-tb -d exec,nochain "$@" 2>&1 >/dev/null | grep -c '^Trace'
     fi
+}
+
+warn_of_emulator() {
+    [ -z "$emulator" ] || echo "The times were measured under an emulator ($emulator): they say nothing of a real board."
 }

@@ -1,12 +1,13 @@
 /* Looks at the largest floor, many times: cost FLOOR WHAT COUNT
    FLOOR is "linked" (no walls: the most that test 6 can ask for) or "walls" (walls only: the most that the turn vertices can).
-   WHAT is "look" (tests 2 to 6) or "turn" (the same, then the turn vertices). Prints the answer and the nanoseconds of the quickest call (0 below three calls, of which none is timed:
-   there the instructions are counted). */
+   WHAT is "look" (tests 2 to 6) or "turn" (the same, then the turn vertices). Prints the answer and the nanoseconds of the
+   quickest call. */
+#include "../least.h"
+
 #include <stdint.h>
 #include <stdio.h>
 #include <stdlib.h>
 #include <string.h>
-#include <time.h>
 
 /* libfloor_c.a. A slice is its pointer and its length. */
 uint32_t floor_look(const uint8_t *vertices, size_t vertices_length, const uint8_t *polygons, size_t polygons_length);
@@ -35,26 +36,20 @@ static void lay(int walls) {
     }
 }
 
-static double now(void) {
-    struct timespec time;
-    clock_gettime(CLOCK_MONOTONIC, &time);
-    return (double)time.tv_sec * 1e9 + (double)time.tv_nsec;
+static uint32_t answer;
+
+static void look(void) {
+    answer = floor_look((const uint8_t *)vertices, sizeof vertices, (const uint8_t *)polygons, sizeof polygons);
+}
+
+static void turn(void) {
+    answer = floor_turn((const uint8_t *)vertices, sizeof vertices, (const uint8_t *)polygons, sizeof polygons, 0);
 }
 
 int main(int words, char **word) {
     if (words != 4) return 2;
     lay(strcmp(word[1], "walls") == 0);
-    int turn = strcmp(word[2], "turn") == 0;
-    long count = atol(word[3]);
-    uint32_t answer = 0;
-    double least = 0.0;
-    for (long i = 0; i < count; i++) {
-        const uint8_t *v = (const uint8_t *)vertices, *p = (const uint8_t *)polygons;
-        double begin = count < 3 ? 0.0 : now();
-        answer = turn ? floor_turn(v, sizeof vertices, p, sizeof polygons, 0) : floor_look(v, sizeof vertices, p, sizeof polygons);
-        double taken = count < 3 ? 0.0 : now() - begin;
-        if (i == 0 || taken < least) least = taken;
-    }
-    printf("%u %.0f\n", answer, least);
+    double quickest = least(strcmp(word[2], "turn") == 0 ? turn : look, atol(word[3]));
+    printf("%u %.0f\n", answer, quickest);
     return 0;
 }

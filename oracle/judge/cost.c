@@ -2,13 +2,13 @@
    The route goes round and round the start, from sector to sector, as a true route may: every middle record is a permitted step.
    WHAT is "end": its last record is not the true end, so the judge reads all of them and answers 23 with the last; or "wrong": the
    one before it is no step, which costs a walk all round the polygon, and the judge answers 22 with it. Prints the answer, the record and
-   the nanoseconds of the quickest call (0 below three calls, of which none is timed: there the instructions are counted). */
+   the nanoseconds of the quickest call. */
+#include "../least.h"
+
+#include "cart.h"
 #include <stdio.h>
 #include <stdlib.h>
 #include <string.h>
-#include <time.h>
-
-#include "../../include/cart.h"
 
 enum { VERTICES = 1024, POLYGONS = 512, SLOTS = 8, SECTORS = 3, MOST = 4097 };
 
@@ -91,32 +91,26 @@ static void drive(int records, int wrong) {
     route[records - 1][0] = 5;
 }
 
-static double now(void) {
-    struct timespec time;
-    clock_gettime(CLOCK_MONOTONIC, &time);
-    return (double)time.tv_sec * 1e9 + (double)time.tv_nsec;
+static float question[4];
+static size_t route_length, fault;
+static uint32_t answer;
+
+static void judge(void) {
+    answer = cart_judge((const uint8_t *)vertices, sizeof vertices, (const uint8_t *)polygons, sizeof polygons,
+                        (const uint8_t *)question, sizeof question, (const uint8_t *)route, route_length, &fault);
 }
 
 int main(int words, char **word) {
     if (words != 4) return 2;
     int records = atoi(word[2]);
-    long count = atol(word[3]);
     if (records < 2 || records > MOST) return 2;
     lay();
     drive(records, strcmp(word[1], "wrong") == 0);
-    float question[4] = {0.0f, 0.0f, 0.0f, 0.0f};
     uint32_t goal = polygons[SECTORS][0];
     question[2] = vertices[goal][0] + 1.0f;
     question[3] = vertices[goal][1] + 1.0f;
-    uint32_t answer = 0;
-    size_t fault = 0;
-    double least = 0.0;
-    for (long i = 0; i < count; i++) {
-        double begin = count < 3 ? 0.0 : now();
-        answer = cart_judge((const uint8_t *)vertices, sizeof vertices, (const uint8_t *)polygons, sizeof polygons, (const uint8_t *)question, sizeof question, (const uint8_t *)route, (size_t)records * 32, &fault);
-        double taken = count < 3 ? 0.0 : now() - begin;
-        if (i == 0 || taken < least) least = taken;
-    }
-    printf("%u %zu %.0f\n", answer, fault, least);
+    route_length = (size_t)records * 32;
+    double quickest = least(judge, atol(word[3]));
+    printf("%u %zu %.0f\n", answer, fault, quickest);
     return 0;
 }
