@@ -139,6 +139,7 @@ lay_workspace() {
     rm -rf "$crates"
     mkdir -p "$crates/.cargo"
     cp -r "$here/Cargo.toml" "$here/rstar" "$here/geo" "$here/harness" "$crates/"
+    cp "$root/include/cart.rs" "$crates/harness/src/bin/compare/"
     lay_glam
     lay_polyanya polyanya
     lay_general_walk

@@ -6,19 +6,20 @@ use std::hint::black_box;
 use std::time::Instant;
 
 use glam::Vec2;
-use harness::floor::Floor;
+use harness::floor::{question, Floor};
 use harness::halls::{Halls, Shape};
 use harness::search01::BUDGET;
 use polyanya::Mesh;
 
-#[allow(dead_code)]
 #[path = "../compare/cart.rs"]
 mod cart;
+#[path = "../compare/lent.rs"]
+mod lent;
 
-use cart::{question, Lent, Stored, ROUTE};
+use lent::{Lengths, Lent};
 
-/// What the route program lends.
-const PLACES: usize = 2047;
+/// The places that the route program lends, and room for any route.
+const LENT: Lengths = Lengths::of(2047, cart::ROUTE_BYTES);
 /// Questions of a floor that both sides find a route for.
 const QUESTIONS: usize = 100;
 const SEED: u64 = 0xBE4C_0001;
@@ -38,7 +39,8 @@ type Place = (Vec2, u32);
 struct Bench {
     shape: Shape,
     floor: Floor,
-    stored: Stored,
+    /// The vertex list and the polygon list.
+    stored: (Vec<u8>, Vec<u8>),
     mesh: Mesh,
     questions: Vec<(Place, Place)>,
     /// Nanoseconds of each question, the least yet of what `timed` gives.
@@ -50,7 +52,7 @@ impl Bench {
         let mut halls = Halls::new(SEED ^ (number as u64) << 32);
         let floor = halls.floor(shape, polygons);
         assert_eq!(floor.refused(), 0);
-        let (stored, mesh) = (Stored::new(&floor), floor.mesh());
+        let (stored, mesh) = (floor.bytes(), floor.mesh());
         let mut bench = Bench { shape, floor, stored, mesh, questions: Vec::new(), least: vec![[f64::INFINITY; 4]; QUESTIONS] };
         while bench.questions.len() < QUESTIONS {
             let ends = (halls.point(&bench.floor), halls.point(&bench.floor));
@@ -90,9 +92,14 @@ impl Bench {
     }
 
     /// The number and the counted steps.
+    fn asked(&self, lent: &mut Lent, question: &[u8]) -> (u32, usize) {
+        let floor = cart::Floor { vertices: &self.stored.0, polygons: &self.stored.1 };
+        let (answer, steps) = lent.search(floor, question, BUDGET, &LENT);
+        (answer.number, steps)
+    }
+
     fn ours(&self, lent: &mut Lent, start: Vec2, goal: Vec2) -> (u32, usize) {
-        let (number, steps, _) = lent.search(&self.stored, &question(start, goal), BUDGET, PLACES, ROUTE);
-        (number, steps)
+        self.asked(lent, &question(start, goal))
     }
 }
 
@@ -110,7 +117,7 @@ struct Times {
 
 fn main() {
     let words: Vec<String> = std::env::args().skip(1).collect();
-    let mut lent = Lent::new();
+    let mut lent = Lent::default();
     if words[0] == "ours" {
         let place: usize = words[1].parse().expect("PLACE");
         let bench = Bench::new(place, FLOORS[place], &mut lent);
@@ -161,7 +168,7 @@ fn timed(bench: &Bench, asked: &(Place, Place), lent: &mut Lent) -> [f64; 4] {
     let ((start, _), (goal, _)) = *asked;
     let short = &question(start, goal)[..15];
     let ours = nanoseconds(|| bench.ours(lent, start, goal));
-    let look = nanoseconds(|| lent.search(&bench.stored, short, BUDGET, PLACES, ROUTE));
+    let look = nanoseconds(|| bench.asked(lent, short));
     let at_start = nanoseconds(|| bench.ours(lent, start, start));
     let at_goal = nanoseconds(|| bench.ours(lent, goal, goal));
     let rusts = nanoseconds(|| bench.mesh.path_between(asked.0, asked.1));
@@ -178,7 +185,7 @@ fn nanoseconds<A>(call: impl FnOnce() -> A) -> f64 {
 fn counted(bench: &Bench, lent: &mut Lent) -> (usize, usize) {
     let mut sums = (0, 0);
     for ((start, _), (goal, _)) in &bench.questions {
-        lent.stayed(0, 0);
+        lent.paint();
         let (number, steps) = bench.ours(lent, *start, *goal);
         assert_eq!(number, 0);
         sums = (sums.0 + steps, sums.1 + lent.taken() - 1);

@@ -2,7 +2,9 @@
 
 use harness::random::Random;
 
-use crate::lent::{Files, Work, FLOATS, TREE, WORDS};
+use crate::cart::{MOST_NODES, NODE_FLOATS, NODE_TREE, NODE_WORDS, ROUTE_BYTES};
+use crate::files::Files;
+use crate::lent::Lengths;
 
 /// Numbers that mean something somewhere: none, the first ones, zeros, infinities, NaN, the limit and beside it.
 const WORDS_OF_NOTE: [u32; 14] = [
@@ -67,26 +69,26 @@ impl Damage {
     }
 
     /// The budget, and the lengths of the lent buffers: often enough, else small, misfit, or none.
-    pub fn work(&mut self) -> Work {
+    pub fn lends(&mut self) -> (usize, Lengths) {
         let places = match self.below(8) {
             0 => self.below(3),
             1 => self.below(40),
-            2 => 4090 + self.below(12),
+            2 => MOST_NODES - 6 + self.below(12),
             _ => 600,
         };
-        let over = |damage: &mut Damage, most: usize| if damage.one_in(3) { damage.below(most + 3) } else { 0 };
         let budget = match self.below(6) {
             0 => self.below(5),
             1 => usize::MAX - self.below(2),
             _ => 4096,
         };
-        let out = if self.one_in(4) { self.below(300) } else { 32 * 4097 };
-        Work {
-            budget,
-            floats: (FLOATS * places + over(self, FLOATS)).saturating_sub(over(self, FLOATS)),
-            words: (WORDS * places + over(self, WORDS)).saturating_sub(over(self, WORDS)),
-            tree: (TREE * places + over(self, TREE)).saturating_sub(over(self, TREE)),
-            out,
-        }
+        let out = if self.one_in(4) { self.below(300) } else { ROUTE_BYTES };
+        let [floats, words, tree] = [NODE_FLOATS, NODE_WORDS, NODE_TREE].map(|size| self.about(size * places, size));
+        (budget, Lengths { floats, words, tree, out })
+    }
+
+    /// So many cells, or some more or fewer.
+    fn about(&mut self, cells: usize, size: usize) -> usize {
+        let mut some = || if self.one_in(3) { self.below(size + 3) } else { 0 };
+        (cells + some()).saturating_sub(some())
     }
 }

@@ -6,14 +6,22 @@ use polyanya::{Mesh, Polygon as Listed, Vertex};
 /// A neighbour that is none: a wall.
 pub const WALL: u32 = u32::MAX;
 
-const MOST_VERTICES: usize = 1024;
-const MOST_POLYGONS: usize = 512;
-const MOST_CORNERS: usize = 8;
+pub const MOST_VERTICES: usize = 1024;
+pub const MOST_POLYGONS: usize = 512;
+pub const MOST_CORNERS: usize = 8;
 const LIMIT: f32 = 16_384.0;
 
 /// "finite, of magnitude at most 16,384"
 pub fn is_in_range(point: &Vec2) -> bool {
     point.x.abs() <= LIMIT && point.y.abs() <= LIMIT
+}
+
+/// The question as stored.
+pub fn question(start: Vec2, goal: Vec2) -> [u8; 16] {
+    let mut bytes = [0; 16];
+    let floats = [start.x, start.y, goal.x, goal.y];
+    bytes.chunks_exact_mut(4).zip(floats).for_each(|(four, float)| four.copy_from_slice(&float.to_le_bytes()));
+    bytes
 }
 
 /// The used slots of a record: edge i runs from corner i to corner i + 1, cyclically, and has neighbour i across it.
@@ -83,14 +91,14 @@ impl Floor {
     }
 
     /// "3 to 8 corners, distinct, each below the vertex count."
-    fn has_corners(&self, polygon: &Polygon) -> bool {
+    pub fn has_corners(&self, polygon: &Polygon) -> bool {
         let corners = &polygon.corners;
         let distinct = (1..corners.len()).all(|i| !corners[..i].contains(&corners[i]));
         (3..=MOST_CORNERS).contains(&corners.len()) && distinct && corners.iter().all(|&v| (v as usize) < self.vertices.len())
     }
 
     /// "if P names Q across edge (a,b), then Q is another listed polygon with an edge (b,a) that names P"
-    fn is_linked(&self, p: usize) -> bool {
+    pub fn is_linked(&self, p: usize) -> bool {
         let names = |q: &Polygon, edge, name| q.edges().zip(&q.neighbours).any(|pair| pair == (edge, &name));
         self.polygons[p].edges().zip(&self.polygons[p].neighbours).all(|((a, b), &q)| {
             let other = (q as usize != p).then(|| self.polygons.get(q as usize)).flatten();

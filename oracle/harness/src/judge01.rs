@@ -4,10 +4,13 @@
 use glam::Vec2;
 use polyanya::Mesh;
 
-use crate::floor::{is_in_range, Floor, Polygon, WALL};
+use crate::floor::{is_in_range, Floor, Polygon, MOST_CORNERS, MOST_POLYGONS, MOST_VERTICES, WALL};
+use crate::search01::length;
 use crate::steps01::{enter, seed, steps_from, Node, Step};
 
-const SLOTS: usize = 8;
+/// Of a polygon: corners, then neighbours.
+const RECORD_WORDS: usize = 2 * MOST_CORNERS;
+/// Of a route, in bytes.
 const RECORD: usize = 32;
 
 /// A number of document 01's table other than 0, and the lowest record at fault where it has one.
@@ -52,49 +55,37 @@ pub fn read(vertices: &[u8], polygons: &[u8], question: &[u8]) -> Result<Read, R
 }
 
 fn read_floor(vertices: &[u8], polygons: &[u8]) -> Result<Floor, Refused> {
-    if !is_whole(vertices, 8, 1024) {
+    if !is_whole(vertices, 8, MOST_VERTICES) {
         return Err((2, None));
     }
-    if !is_whole(polygons, 8 * SLOTS, 512) {
+    if !is_whole(polygons, 4 * RECORD_WORDS, MOST_POLYGONS) {
         return Err((3, None));
     }
-    let vertices: Vec<Vec2> = words(vertices).chunks_exact(2).map(|pair| point(pair[0], pair[1])).collect();
-    if let Some(v) = vertices.iter().position(|vertex| !is_in_range(vertex)) {
+    let vertices = words(vertices).chunks_exact(2).map(|pair| point(pair[0], pair[1])).collect();
+    let records: Vec<Vec<u32>> = words(polygons).chunks_exact(RECORD_WORDS).map(<[u32]>::to_vec).collect();
+    let floor = Floor { vertices, polygons: records.iter().map(|record| used(record)).collect() };
+    let corners = |p: usize| floor.polygons[p].corners.len();
+    // "Unused slots hold 0xFFFFFFFF and stand after the used ones"; "unused corners have unused neighbours"
+    let is_unused = |slots: &[u32]| slots.iter().all(|&slot| slot == WALL);
+    let has_corners = |p: usize| floor.has_corners(&floor.polygons[p]) && is_unused(&records[p][corners(p)..MOST_CORNERS]);
+    let is_linked = |p: usize| floor.is_linked(p) && is_unused(&records[p][MOST_CORNERS + corners(p)..]);
+    if let Some(v) = floor.vertices.iter().position(|vertex| !is_in_range(vertex)) {
         return Err((4, Some(v)));
     }
-    let records: Vec<Vec<u32>> = words(polygons).chunks_exact(2 * SLOTS).map(<[u32]>::to_vec).collect();
-    if let Some(p) = records.iter().position(|record| !has_corners(&record[..SLOTS], vertices.len())) {
+    if let Some(p) = (0..records.len()).find(|&p| !has_corners(p)) {
         return Err((5, Some(p)));
     }
-    let listed: Vec<Polygon> = records.iter().map(|record| used(record)).collect();
-    if let Some(p) = (0..records.len()).find(|&p| !is_linked(&listed, &records[p], p)) {
+    if let Some(p) = (0..records.len()).find(|&p| !is_linked(p)) {
         return Err((6, Some(p)));
     }
-    Ok(Floor { vertices, polygons: listed })
+    Ok(floor)
 }
 
-/// "Unused slots hold 0xFFFFFFFF and stand after the used ones. 3 to 8 corners, distinct, each below the vertex count."
-fn has_corners(slots: &[u32], count: usize) -> bool {
-    let n = slots.iter().position(|&slot| slot == WALL).unwrap_or(SLOTS);
-    let distinct = (1..n).all(|i| !slots[..i].contains(&slots[i]));
-    n >= 3 && slots[n..].iter().all(|&slot| slot == WALL) && distinct && slots[..n].iter().all(|&v| (v as usize) < count)
-}
-
-/// The used slots of a record whose corners are right.
+/// The slots of a record before the first unused one, and the neighbours beside them.
 fn used(record: &[u32]) -> Polygon {
-    let n = record[..SLOTS].iter().position(|&slot| slot == WALL).unwrap_or(SLOTS);
-    Polygon { corners: record[..n].to_vec(), neighbours: record[SLOTS..SLOTS + n].to_vec() }
-}
-
-/// "if P names Q across edge (a,b), then Q is another listed polygon with an edge (b,a) that names P"; "unused corners have unused
-/// neighbours"
-fn is_linked(listed: &[Polygon], record: &[u32], p: usize) -> bool {
-    let n = listed[p].corners.len();
-    let names = |q: &Polygon, edge| q.edges().zip(&q.neighbours).any(|pair| pair == (edge, &(p as u32)));
-    let is_named = |((a, b), &q): ((u32, u32), &u32)| {
-        q == WALL || (q as usize != p && listed.get(q as usize).is_some_and(|other| names(other, (b, a))))
-    };
-    listed[p].edges().zip(&listed[p].neighbours).all(is_named) && record[SLOTS + n..].iter().all(|&slot| slot == WALL)
+    let (corners, neighbours) = record.split_at(MOST_CORNERS);
+    let n = corners.iter().position(|&slot| slot == WALL).unwrap_or(MOST_CORNERS);
+    Polygon { corners: corners[..n].to_vec(), neighbours: neighbours[..n].to_vec() }
 }
 
 /// What the judge says of a route file: the points of a true route, or the number and the record at fault.
@@ -121,8 +112,7 @@ pub fn judge(read: &Read, route: &[u8]) -> Result<Vec<Vec2>, Refused> {
         points.extend(Mesh::turning_point(node.root, goal, node.interval));
     }
     points.push(goal);
-    let length = points.iter().fold((0.0, start), |(total, from), &to: &Vec2| (total + from.distance(to), to)).0;
-    let end = [5, points.len() as u32, goal.x.to_bits(), goal.y.to_bits(), length.to_bits(), 0, 0, 0];
+    let end = [5, points.len() as u32, goal.x.to_bits(), goal.y.to_bits(), length(start, &points).to_bits(), 0, 0, 0];
     if node.polygon != to || records[last] != end {
         return Err((23, Some(last)));
     }

@@ -1,6 +1,7 @@
 //! What the programs share: the original's functions, the inputs and the answers; and the steps and the search of document 01.
 
 pub mod answer;
+pub mod chunks;
 pub mod floor;
 pub mod floors;
 pub mod functions;

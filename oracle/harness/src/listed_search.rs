@@ -10,7 +10,7 @@ use polyanya::Mesh;
 use crate::floor::{Floor, WALL};
 use crate::floors::Asked;
 use crate::listed::{following, Switches, CHAINED};
-use crate::search01::{BUDGET, PLACES};
+use crate::search01::{length, BUDGET, PLACES};
 use crate::steps01::{seed, Node};
 
 /// The listed points. A set of them is a number with the bit of each that it holds.
@@ -247,8 +247,7 @@ impl Search<'_> {
             place = self.places[place].parent;
         }
         points.reverse();
-        let start = self.places[0].node.root;
-        let length = points.iter().fold((0.0, start), |(total, from), &to| (total + from.distance(to), to)).0;
+        let length = length(self.places[0].node.root, &points);
         (points, length)
     }
 }

@@ -31,22 +31,41 @@ pub struct Answer {
     pub route: Option<Route>,
 }
 
+impl Answer {
+    /// The number and the route file that a caller gets whose output has so many bytes. "13 comes after found"
+    pub fn written(&self, room: usize) -> (u32, Vec<u8>) {
+        match self.route.as_ref().map(Route::bytes) {
+            Some(bytes) if bytes.len() > room => (13, Vec::new()),
+            Some(bytes) => (0, bytes),
+            None => (self.number, Vec::new()),
+        }
+    }
+}
+
 pub struct Route {
+    pub seed: Node,
     pub steps: Vec<Step>,
+    /// The goal is the last.
     pub points: Vec<Vec2>,
     pub length: f32,
 }
 
 impl Route {
-    /// The route file, from a start in a polygon to a goal: "Seed: 1, polygon, start x, y, 16 zero bytes. Step: kind .. End: 5,
-    /// number of points, goal x, y, length, 12 zero bytes."
-    pub fn bytes(&self, start: Vec2, polygon: u32, goal: Vec2) -> Vec<u8> {
+    /// The route file: "Seed: 1, polygon, start x, y, 16 zero bytes. Step: kind .. End: 5, number of points, goal x, y, length, 12 zero
+    /// bytes."
+    fn bytes(&self) -> Vec<u8> {
+        let (start, goal) = (self.seed.root, self.points[self.points.len() - 1]);
         let [from_x, from_y, to_x, to_y, length] = [start.x, start.y, goal.x, goal.y, self.length].map(f32::to_bits);
-        let mut records = vec![[1, polygon, from_x, from_y, 0, 0, 0, 0]];
+        let mut records = vec![[1, self.seed.polygon, from_x, from_y, 0, 0, 0, 0]];
         records.extend(self.steps.iter().map(Step::words));
         records.push([5, self.points.len() as u32, to_x, to_y, length, 0, 0, 0]);
         records.into_iter().flatten().flat_map(u32::to_le_bytes).collect()
     }
+}
+
+/// The f32 sum of the legs, in order.
+pub fn length(start: Vec2, points: &[Vec2]) -> f32 {
+    points.iter().fold((0.0, start), |(total, from), &to| (total + from.distance(to), to)).0
 }
 
 struct Search<'f> {
@@ -181,8 +200,8 @@ impl Search<'_> {
             points.extend(Mesh::turning_point(root, self.goal, interval));
         }
         points.push(self.goal);
-        let start = self.places[0].node.root;
-        let length = points.iter().fold((0.0, start), |(total, from), &to| (total + from.distance(to), to)).0;
-        Route { steps: chain.iter().filter_map(|&place| self.places[place].step).collect(), points, length }
+        let seed = self.places[0].node;
+        let length = length(seed.root, &points);
+        Route { seed, steps: chain.iter().filter_map(|&place| self.places[place].step).collect(), points, length }
     }
 }

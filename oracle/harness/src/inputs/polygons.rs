@@ -5,6 +5,7 @@ use glam::Vec2;
 use super::wedges::{left_of, point, put};
 use super::{Draw, Kind};
 use crate::functions::{Input, CORNERS, ENTRY, FIRST_CORNER};
+use crate::halls::turned;
 
 /// Cuts within this distance of a corner are passed over: its square is about f32 1e-6.
 const PASSED_OVER: f32 = 1.0e-3;
@@ -29,7 +30,7 @@ impl Draw {
         let mut input = [0; 24];
         for (place, turn) in self.turns(corners).into_iter().enumerate() {
             let out = if self.random.below(2) == 0 { 1.0 } else { self.random.fraction() };
-            put(&mut input, FIRST_CORNER + place, centre + turned(turn) * (out * size));
+            put(&mut input, FIRST_CORNER + place, centre + direction(turn) * (out * size));
         }
         // The first edge's end is on the right hand of one who comes in over it.
         let right = point(&input, FIRST_CORNER + (entry + 1) % corners);
@@ -102,14 +103,8 @@ impl Draw {
     }
 }
 
-/// The direction after so many quarter turns, by way of the square about the origin: no library's sine, so the same everywhere.
-fn turned(turn: f32) -> Vec2 {
-    let (quarter, rest) = (turn as u32 % 4, 2.0 * turn.fract() - 1.0);
-    let on_square = match quarter {
-        0 => Vec2::new(1.0, rest),
-        1 => Vec2::new(-rest, 1.0),
-        2 => Vec2::new(-1.0, -rest),
-        _ => Vec2::new(rest, -1.0),
-    };
+/// The direction after so many quarter turns.
+fn direction(turn: f32) -> Vec2 {
+    let on_square = turned(turn);
     on_square * (1.0 / on_square.length())
 }

@@ -1,9 +1,8 @@
 //! Every function on the grid and on the random inputs, the work shared out in chunks among threads.
 
 use std::fmt::Display;
-use std::sync::atomic::{AtomicUsize, Ordering};
-use std::thread;
 
+use harness::chunks::counted;
 use harness::functions::{Function, Input, FUNCTIONS, WALK};
 use harness::inputs::{grid_input, grid_size, grid_values, Draw, Kind};
 
@@ -36,8 +35,8 @@ struct Counts<A> {
     differences: Vec<Difference<A>>,
 }
 
-impl<A> Counts<A> {
-    fn new() -> Counts<A> {
+impl<A> Default for Counts<A> {
+    fn default() -> Counts<A> {
         Counts { grid: 0, random: 0, listed: 0, differ: 0, differences: Vec::new() }
     }
 }
@@ -81,29 +80,14 @@ fn compare_function<A: Display + PartialEq + Send>(place: usize, function: &Func
 
 fn count<A: PartialEq + Send>(place: usize, function: &Function<A>, ours: fn(&Input) -> A, threads: usize) -> Counts<A> {
     let chunks = chunks_of(function);
-    let next = AtomicUsize::new(0);
-    let work = || {
-        let mut counts = Counts::new();
-        loop {
-            let chunk = next.fetch_add(1, Ordering::Relaxed);
-            if chunk >= chunks.len() {
-                return counts;
-            }
-            compare_chunk(place, function, ours, chunk, &chunks[chunk], &mut counts);
-        }
-    };
-    let mut all = Counts::new();
-    thread::scope(|scope| {
-        let workers: Vec<_> = (0..threads).map(|_| scope.spawn(work)).collect();
-        for worker in workers {
-            let counts = worker.join().expect("a thread ended early");
-            all.grid += counts.grid;
-            all.random += counts.random;
-            all.listed += counts.listed;
-            all.differ += counts.differ;
-            all.differences.extend(counts.differences);
-        }
-    });
+    let mut all = Counts::default();
+    for counts in counted(threads, chunks.len(), |chunk, counts| compare_chunk(place, function, ours, chunk, &chunks[chunk], counts)) {
+        all.grid += counts.grid;
+        all.random += counts.random;
+        all.listed += counts.listed;
+        all.differ += counts.differ;
+        all.differences.extend(counts.differences);
+    }
     // Each thread took its chunks in order and kept its first, so the first of all are among them.
     all.differences.sort_by_key(|difference| difference.chunk);
     all.differences.truncate(SHOWN);

@@ -4,10 +4,10 @@
 
 use std::process::ExitCode;
 
-#[allow(dead_code)] // The program of bench/ shares it.
-mod cart;
+mod cart; // include/cart.rs, which build.sh lays here.
 mod functions;
 mod lengths;
+mod lent;
 mod ours;
 mod roots;
 mod search;

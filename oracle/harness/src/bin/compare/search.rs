@@ -1,18 +1,17 @@
 //! The whole search on random questions: ours beside document 01's own sentences (search01), number, counted steps and route
 //! bytes; every route that is found goes to our judge; and its length is held beside the unchanged Rust's.
 
-use std::sync::atomic::{AtomicUsize, Ordering};
-use std::thread;
-
 use glam::Vec2;
-use harness::floor::Floor;
+use harness::chunks::counted;
+use harness::floor::{question, Floor};
 use harness::floors::Floors;
 use harness::halls::{Halls, Shape, SHAPES};
 use harness::random::Random;
-use harness::search01::{search, Answer, BUDGET};
+use harness::search01::{search, BUDGET};
 
-use crate::cart::{judged, question, Lent, Stored, PLACES, ROUTE};
-use crate::lengths::{Counts as Lengths, Ends};
+use crate::cart::{self, MOST_NODES, ROUTE_BYTES};
+use crate::lengths::{Counts as RouteLengths, Ends};
+use crate::lent::{Lengths, Lent, Told};
 use crate::{Sum, SHOWN};
 
 /// What ONLY calls it.
@@ -30,15 +29,6 @@ const MANY: usize = 300;
 /// Shapes of halls, and before them the small floors that the steps are compared on.
 const CLASSES: usize = SHAPES.len() + 1;
 
-/// What a search answered: the number, the counted steps, the route, and whether it left everything else as it was.
-#[derive(PartialEq)]
-struct Told {
-    number: u32,
-    steps: usize,
-    route: Vec<u8>,
-    stayed: bool,
-}
-
 #[derive(Default)]
 struct Counts {
     questions: usize,
@@ -49,7 +39,7 @@ struct Counts {
     differ: usize,
     /// The first few.
     differences: Vec<String>,
-    lengths: Lengths,
+    lengths: RouteLengths,
 }
 
 impl Counts {
@@ -100,23 +90,9 @@ fn described(class: usize) -> &'static str {
 }
 
 fn count(class: usize, threads: usize) -> Counts {
-    let next = AtomicUsize::new(0);
-    let work = || {
-        let mut counts = Counts::default();
-        let mut lent = Lent::new();
-        loop {
-            let chunk = next.fetch_add(1, Ordering::Relaxed);
-            if chunk >= CHUNKS {
-                return counts;
-            }
-            compare_chunk(class, chunk, &mut lent, &mut counts);
-        }
-    };
+    let work = |chunk, (counts, lent): &mut (Counts, Lent)| compare_chunk(class, chunk, lent, counts);
     let mut all = Counts::default();
-    thread::scope(|scope| {
-        let workers: Vec<_> = (0..threads).map(|_| scope.spawn(work)).collect();
-        workers.into_iter().for_each(|worker| all.add(worker.join().expect("a thread ended early")));
-    });
+    counted(threads, CHUNKS, work).into_iter().for_each(|(counts, _)| all.add(counts));
     all
 }
 
@@ -132,76 +108,54 @@ fn compare_chunk(class: usize, chunk: usize, lent: &mut Lent, counts: &mut Count
             }
         };
         assert_eq!(floor.refused(), 0, "{floor:?}");
-        let (stored, ends) = (Stored::new(&floor), Ends::new(&floor));
+        let ends = Ends::new(&floor);
+        let (vertices, polygons) = floor.bytes();
+        let stored = cart::Floor { vertices: &vertices, polygons: &polygons };
         for _ in 0..QUESTIONS {
             // Anywhere in a polygon, or one time in four a corner, on an edge or beside it.
             let mut point = || if random.below(4) == 0 { floors.point(&floor) } else { halls.point(&floor) };
             let (start, goal) = (point(), point());
             let lends = lends(&mut random);
-            compare_question(&floor, &stored, &ends, (start, goal), lends, lent, counts);
+            compare_question(&floor, stored, &ends, (start, goal), lends, lent, counts);
         }
     }
 }
 
 /// The budget, the places and the room for the route: three times in four all that there is.
-fn lends(random: &mut Random) -> (usize, usize, usize) {
+fn lends(random: &mut Random) -> (usize, Lengths) {
     match random.below(12) {
-        0 => (random.below(40), PLACES, ROUTE),
-        1 => (BUDGET, random.below(60), ROUTE),
-        2 => (BUDGET, PLACES, random.below(400)),
-        _ => (BUDGET, PLACES, ROUTE),
+        0 => (random.below(40), Lengths::MOST),
+        1 => (BUDGET, Lengths::of(random.below(60), ROUTE_BYTES)),
+        2 => (BUDGET, Lengths::of(MOST_NODES, random.below(400))),
+        _ => (BUDGET, Lengths::MOST),
     }
 }
 
 fn compare_question(
     floor: &Floor,
-    stored: &Stored,
+    stored: cart::Floor,
     ends: &Ends,
     (start, goal): (Vec2, Vec2),
-    (budget, places, room): (usize, usize, usize),
+    (budget, lengths): (usize, Lengths),
     lent: &mut Lent,
     counts: &mut Counts,
 ) {
     let asked = question(start, goal);
-    let answer = search(floor, start, goal, places, budget);
-    let by_document = by_document(&answer, floor, (start, goal), room);
-    let ours = ours(stored, &asked, (budget, places, room), lent);
+    let answer = search(floor, start, goal, lengths.places(), budget);
+    let by_document = Told::by_document(&answer, lengths.out);
+    let ours = lent.told(stored, &asked, budget, &lengths);
+    lent.paint();
     counts.questions += 1;
     counts.numbers[by_document.number as usize] += 1;
     counts.steps += by_document.steps;
-    counts.refused += (ours.number == 0 && judged(stored, &asked, &ours.route) != 0) as usize;
+    counts.refused += (ours.number == 0 && cart::judge(stored, &asked, &ours.route).number != 0) as usize;
     if ours != by_document {
         counts.differ += 1;
-        let text = format!("  {start:?} to {goal:?}, budget {budget}, {places} places, room {room}, on {floor:?}");
-        counts.differences.push(format!("{text}\n    01:   {}\n    ours: {}", by_document.text(), ours.text()));
+        let text = format!("  {start:?} to {goal:?}, budget {budget}, {} places, room {}, on {floor:?}", lengths.places(), lengths.out);
+        counts.differences.push(format!("{text}\n    01:   {by_document:?}\n    ours: {ours:?}"));
     }
-    let whole = (budget, places, room) == (BUDGET, PLACES, ROUTE);
+    let whole = (budget, lengths) == (BUDGET, Lengths::MOST);
     if whole && !(7..=9).contains(&answer.number) {
         counts.lengths.compare(ends, floor, (start, goal), &answer);
-    }
-}
-
-fn by_document(answer: &Answer, floor: &Floor, (start, goal): (Vec2, Vec2), room: usize) -> Told {
-    let route = answer.route.as_ref().map(|route| route.bytes(start, floor.polygon_of(start).expect("a polygon"), goal));
-    let (number, route) = match route {
-        Some(bytes) if bytes.len() > room => (13, Vec::new()),
-        Some(bytes) => (0, bytes),
-        None => (answer.number, Vec::new()),
-    };
-    Told { number, steps: answer.pops, route, stayed: true }
-}
-
-fn ours(stored: &Stored, asked: &[u8], (budget, places, room): (usize, usize, usize), lent: &mut Lent) -> Told {
-    let (number, steps, value) = lent.search(stored, asked, budget, places, room);
-    let bytes = if number == 0 { value.min(ROUTE) } else { 0 };
-    let route = lent.route(bytes).to_vec();
-    Told { number, steps, route, stayed: lent.stayed(places, bytes) }
-}
-
-impl Told {
-    fn text(&self) -> String {
-        let words = self.route.chunks_exact(4).map(|four| format!("{:08X}", u32::from_le_bytes([four[0], four[1], four[2], four[3]])));
-        let stayed = if self.stayed { "" } else { ", and wrote where it may not" };
-        format!("{} after {} steps, {}{stayed}", self.number, self.steps, words.collect::<Vec<_>>().join(" "))
     }
 }

@@ -1,9 +1,7 @@
 //! The steps out of random nodes of random floors: ours, asked for one after the other, beside document 01's over the
 //! original's walk and clip (steps01). Every word of every step has to agree, and their order.
 
-use std::sync::atomic::{AtomicUsize, Ordering};
-use std::thread;
-
+use harness::chunks::counted;
 use harness::floor::Floor;
 use harness::floors::{Asked, Class, Floors, CLASSES};
 use harness::steps01::{steps_from, Node};
@@ -118,22 +116,8 @@ fn listed(counts: &[usize], from: usize) -> String {
 }
 
 fn count(class: Class, threads: usize) -> Counts {
-    let next = AtomicUsize::new(0);
-    let work = || {
-        let mut counts = Counts::default();
-        loop {
-            let chunk = next.fetch_add(1, Ordering::Relaxed);
-            if chunk >= CHUNKS {
-                return counts;
-            }
-            compare_chunk(class, chunk, &mut counts);
-        }
-    };
     let mut all = Counts::default();
-    thread::scope(|scope| {
-        let workers: Vec<_> = (0..threads).map(|_| scope.spawn(work)).collect();
-        workers.into_iter().for_each(|worker| all.add(worker.join().expect("a thread ended early")));
-    });
+    counted(threads, CHUNKS, |chunk, counts| compare_chunk(class, chunk, counts)).into_iter().for_each(|counts| all.add(counts));
     all
 }
 

@@ -8,7 +8,7 @@
 use std::io::{self, Write};
 
 use glam::Vec2;
-use harness::floor::Floor;
+use harness::floor::{question, Floor};
 use harness::search01;
 
 mod cases;
@@ -49,24 +49,16 @@ fn main() -> io::Result<()> {
     out.flush()
 }
 
-/// "13 comes after found": the route is known, and the room is too short for it.
 fn expected(case: &Case) -> Expected {
     assert_eq!(case.floor.refused(), 0, "{}", case.name);
     let answer = search01::search(&case.floor, case.start, case.goal, case.places, case.budget);
-    let steps = answer.pops;
-    let Some(route) = answer.route else { return Expected { number: answer.number, steps, route: Vec::new() } };
-    let polygon = case.floor.polygon_of(case.start).expect("a start on the floor");
-    let route = route.bytes(case.start, polygon, case.goal);
-    if route.len() > case.room {
-        return Expected { number: 13, steps, route: Vec::new() };
-    }
-    Expected { number: 0, steps, route }
+    let (number, route) = answer.written(case.room);
+    Expected { number, steps: answer.pops, route }
 }
 
 fn write_case(out: &mut dyn Write, case: &Case, expected: &Expected) -> io::Result<()> {
     let (vertices, polygons) = case.floor.bytes();
-    let question: Vec<u8> =
-        [case.start.x, case.start.y, case.goal.x, case.goal.y].into_iter().flat_map(f32::to_le_bytes).collect();
+    let question = question(case.start, case.goal);
     let lent = [case.places, case.budget, case.room];
     let answered = [expected.number as usize, expected.steps, expected.route.len()];
     let lengths = [case.name.len(), vertices.len(), polygons.len(), question.len()];
