@@ -1,8 +1,6 @@
 /* What a controller does that finds its own way: a search on document 01's example floor, the judge on what was found, and the
    points that the cart drives to. Then a search that is refused. */
-#include "cart.h"
-#include "floor.h"
-#include <stdio.h>
+#include "show.h"
 #include <string.h>
 
 /* Room for a search of so many nodes, and for the longest route that they can make. */
@@ -12,19 +10,11 @@ static uint32_t words[CART_NODE_WORDS * NODES];
 static uint32_t tree[CART_NODE_TREE * NODES];
 static uint8_t found[CART_RECORD_BYTES * (NODES + 1)];
 
-static const size_t none = (size_t)-1;
-
 static uint32_t search(const uint8_t *asked, size_t *steps, size_t *value) {
     *value = none;
     return cart_search(vertices, sizeof vertices, polygons, sizeof polygons, asked, CART_QUESTION_BYTES, CART_BUDGET,
                        floats, sizeof floats / sizeof floats[0], words, sizeof words / sizeof words[0],
                        tree, sizeof tree / sizeof tree[0], found, sizeof found, steps, value);
-}
-
-static void say(const char *what, uint32_t number) {
-    uint8_t text[CART_WORDS_BYTES];
-    size_t count = cart_words(number, text);
-    printf("%s: %u %.*s\n", what, (unsigned)number, (int)count, (const char *)text);
 }
 
 static int find_route(size_t *length) {
@@ -38,20 +28,8 @@ static int find_route(size_t *length) {
 static int judge_found(size_t length) {
     size_t record = none;
     uint32_t number = cart_judge(vertices, sizeof vertices, polygons, sizeof polygons, question, sizeof question, found, length, &record);
-    say("the judge", number);
+    say("the judge", number, record);
     return number == 0;
-}
-
-static int list_found(size_t length) {
-    static float points[2 * (NODES + 1)];
-    size_t count = 0;
-    uint32_t number = cart_read_out(vertices, sizeof vertices, polygons, sizeof polygons, question, sizeof question, found, length,
-                                    points, sizeof points / sizeof points[0], &count);
-    if (number != 0) return 0;
-    printf("its points:");
-    for (size_t i = 0; i < count; i++) printf(" (%g, %g)", (double)points[2 * i], (double)points[2 * i + 1]);
-    printf("\n");
-    return count == 1 && points[0] == 3.0f && points[1] == 1.0f;
 }
 
 /* From (1,3), which no polygon contains: 8, with no record and no steps, and the output as it was. */
@@ -62,11 +40,11 @@ static int ask_from_outside(void) {
     memcpy(before, found, sizeof found);
     memcpy(outside + 4, question + 8, 4);
     uint32_t number = search(outside, &steps, &value);
-    say("from (1, 3)", number);
+    say("from (1, 3)", number, value);
     return number == 8 && steps == 0 && value == none && memcmp(found, before, sizeof found) == 0;
 }
 
 int main(void) {
     size_t length;
-    return find_route(&length) && judge_found(length) && list_found(length) && ask_from_outside() ? 0 : 1;
+    return find_route(&length) && judge_found(length) && list_points(found, length) && ask_from_outside() ? 0 : 1;
 }

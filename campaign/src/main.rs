@@ -10,6 +10,7 @@ mod lent;
 
 use std::collections::BTreeMap;
 use std::fmt::Debug;
+use std::process::ExitCode;
 
 use cart::Answer;
 use damage::Damage;
@@ -56,7 +57,7 @@ impl Counts {
     }
 }
 
-fn main() {
+fn main() -> ExitCode {
     let cases: usize = std::env::args().nth(1).and_then(|text| text.parse().ok()).expect("say how many cases");
     let threads = std::env::args().nth(2).and_then(|text| text.parse().ok()).unwrap_or(1);
     let mut all = Counts::default();
@@ -69,7 +70,7 @@ fn main() {
     }
     let tried: usize = all.numbers.values().sum();
     println!("{tried} answers, {} differ", all.differ);
-    assert_eq!(all.differ, 0, "an answer is not document 01's");
+    ExitCode::from((all.differ != 0) as u8)
 }
 
 /// A floor and a question, whole in one chunk of four, and what is made of them.

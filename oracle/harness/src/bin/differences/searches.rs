@@ -4,7 +4,7 @@ use glam::Vec2;
 use harness::floor::Floor;
 use harness::search01::{search, Answer, BUDGET, PLACES};
 
-use crate::text::{self, at, counted, floor, of_floor, point};
+use crate::text::{self, asked, at, counted, floor, walled};
 use crate::{Shown, RULE};
 
 pub fn shown() -> Vec<Shown> {
@@ -13,10 +13,6 @@ pub fn shown() -> Vec<Shown> {
 
 /// More pops than a search here needs that ends.
 const MANY: usize = 10_000;
-
-fn asked(floor: &Floor, start: Vec2, goal: Vec2) -> String {
-    format!("{}, question {} to {}", of_floor(floor), point(start), point(goal))
-}
 
 fn place(floor: &Floor, point: Vec2) -> (Vec2, u32) {
     (point, floor.polygon_of(point).expect("a point on the floor"))
@@ -70,9 +66,7 @@ fn chain() -> Shown {
 
 /// As the steps show it, with the answer that a caller gets.
 fn wall() -> Shown {
-    let mut floor = floor(&[(0.0, 0.0), (2.0, 0.0), (0.0, 2.0), (2.0, 2.0)], &[&[0, 1, 2], &[1, 3, 2]]);
-    floor.wall_up(1, 2);
-    question("The neighbour across an edge: the answer", &floor, at(0.0, 0.0), at(2.0, 2.0), false)
+    question("The neighbour across an edge: the answer", &walled(), at(0.0, 0.0), at(2.0, 2.0), false)
 }
 
 /// Round the hole 2,3,4 either way is as long. The node that has turned has the larger distance, and the higher place.

@@ -5,7 +5,7 @@ use harness::floor::Floor;
 use harness::steps01::{enter, seed, steps_from, Node};
 use polyanya::Mesh;
 
-use crate::text::{as_node, at, floor, interval, node, nodes, of_floor, point, steps};
+use crate::text::{as_node, asked, at, floor, interval, node, nodes, point, steps, walled};
 use crate::{Shown, RULE};
 
 pub fn shown() -> Vec<Shown> {
@@ -32,7 +32,7 @@ fn after(name: &'static str, floor: &Floor, start: Vec2, goal: Vec2, choices: &[
     assert_ne!(floor.polygon_of(start), Some(goal_polygon), "{name}");
     let (left, from) = reached(floor, goal, start, choices);
     let (mesh, to) = (floor.mesh(), (goal, goal_polygon));
-    let question = format!("{}, question {} to {}", of_floor(floor), point(start), point(goal));
+    let question = asked(floor, start, goal);
     let (input, rust) = if from.seed {
         (format!("{question}; from the seed"), mesh.begun((start, from.polygon), to))
     } else {
@@ -123,9 +123,6 @@ fn clipped_away() -> Shown {
     }
 }
 
-/// Two triangles that share two vertices, and a wall between them.
 fn wall() -> Shown {
-    let mut floor = floor(&[(0.0, 0.0), (2.0, 0.0), (0.0, 2.0), (2.0, 2.0)], &[&[0, 1, 2], &[1, 3, 2]]);
-    floor.wall_up(1, 2);
-    after("The neighbour across an edge", &floor, at(0.0, 0.0), at(2.0, 2.0), &[])
+    after("The neighbour across an edge", &walled(), at(0.0, 0.0), at(2.0, 2.0), &[])
 }

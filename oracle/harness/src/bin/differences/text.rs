@@ -14,6 +14,13 @@ pub fn floor(vertices: &[(f32, f32)], polygons: &[&[u32]]) -> Floor {
     Floor::linked(vertices.iter().map(|&(x, y)| at(x, y)).collect(), &corners)
 }
 
+/// Two triangles that share two vertices, and a wall between them.
+pub fn walled() -> Floor {
+    let mut floor = floor(&[(0.0, 0.0), (2.0, 0.0), (0.0, 2.0), (2.0, 2.0)], &[&[0, 1, 2], &[1, 3, 2]]);
+    floor.wall_up(1, 2);
+    floor
+}
+
 pub fn point(point: Vec2) -> String {
     format!("({}, {})", point.x, point.y)
 }
@@ -34,8 +41,12 @@ fn joined(parts: Vec<String>) -> String {
     parts.join("; ")
 }
 
+pub fn asked(floor: &Floor, start: Vec2, goal: Vec2) -> String {
+    format!("{}, question {} to {}", of_floor(floor), point(start), point(goal))
+}
+
 /// The floor's vertices and the corners of its polygons. A pair of opposite edges is open unless it is called a wall.
-pub fn of_floor(floor: &Floor) -> String {
+fn of_floor(floor: &Floor) -> String {
     let numbers = |corners: &[u32]| corners.iter().map(u32::to_string).collect::<Vec<_>>().join(",");
     let polygons: Vec<String> = floor.polygons.iter().map(|polygon| numbers(&polygon.corners)).collect();
     let mut words = format!("vertices {}, polygons {}", points(&floor.vertices), polygons.join(" "));
