@@ -27,7 +27,7 @@ use Rattle.floor.specs.declared.Look.the-variants.{Inside, Refused}
 use Rattle.stored.specs.Stored.{Floor, origin, floorOf, questionOf, polygon, edge, cornerCount}
 use Rattle.faults.specs.Tests.{lengthRight, pointRight, cornersRight, linksRight, questionRight}
 use Rattle.faults.specs.Accepted.{Links, Accepted}
-use Rattle.floor.specs.Where.{contains, polygonOf}
+use Rattle.edges.specs.Where.{contains, polygonOf}
 use Rattle.floor.specs.Look.{badVertex, badCorners, badLinks, floorLookOf, askIf, askOf, lookOf}
 use Rattle.floor.specs.Exactly.{Whole, Lists, VertexRight, CornersRight, Asked, Contains, InSome, FloorCase, Case}
 use Rattle.faults.proofs.Decided.{both, through, equal, length-decided, point-decided, corners-decided, links-decided}

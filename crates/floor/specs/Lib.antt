@@ -1,3 +1,2 @@
-pub mod Where
 pub mod Look
 pub mod Exactly

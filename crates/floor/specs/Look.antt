@@ -14,7 +14,7 @@ use Rattle.floor.specs.declared.Look.{Look}
 use Rattle.floor.specs.declared.Look.the-variants.{Inside, Refused}
 use Rattle.stored.specs.Stored.{Floor, origin, floorOf, questionOf, polygon}
 use Rattle.faults.specs.Tests.{lengthRight, pointRight, cornersRight, linksRight, questionRight}
-use Rattle.floor.specs.Where.{polygonOf}
+use Rattle.edges.specs.Where.{polygonOf}
 
 -- ---- the lowest record at fault, or the number of records where there is none
 

@@ -1,23 +1,14 @@
-// The look at a floor and a question: the tests 2 to 9 in table order, which polygon a point is in, and which vertices turn. A
-// floor is two lists of records and the number of corner slots in a polygon's; a list holds at most as many records as document
-// 01 says.
+// The look at a floor and a question: the tests 2 to 9 in table order. A floor is two lists of records and the number of corner
+// slots in a polygon's; a list holds at most as many records as document 01 says.
 
 ghost use mathlib.Core.Path.{_≡_};
 ghost use Prim.Native.Nat.{_*_, _/_, _≤_, _<_, _^_};
 ghost use mathlib.Core.Bool.{not};
 ghost use lib.ListN.{length, getD};
-ghost use Rattle.point.specs.declared.EdgeSide.the-variants.{Right};
-ghost use Rattle.point.specs.Sides.{sideOf, sameSideOf};
-ghost use Rattle.stored.specs.Stored.{origin, polygonAt, floorOf, polygon, cornerCount, edge};
+ghost use Rattle.stored.specs.Stored.{origin, floorOf, polygon};
 ghost use Rattle.faults.specs.Tests.{pointRight, cornersRight, questionRight};
-ghost use Rattle.faults.specs.Accepted.{Accepted, Listed};
-ghost use Rattle.floor.specs.Where.{contains, polygonOf};
+ghost use Rattle.faults.specs.Accepted.{Accepted};
 ghost use Rattle.floor.specs.Look.{badVertex, badCorners, badLinks, floorLookOf, askOf, lookOf, refusalNumber};
-use point::EdgeSide;
-use point::Point;
-use point::Segment;
-
-pub mod turns;
 
 // How many corners a polygon's record has room for.
 pub const SLOTS: usize = 8;
@@ -148,68 +139,6 @@ pub fn look_at_floor(vertices: &[u8], polygons: &[u8]) -> FloorLook
     FloorLook::Accepted
 }
 
-// Edge i of polygon p, from corner to corner.
-pub fn edge(vertices: &[u8], polygons: &[u8], slots: usize, p: usize, i: usize) -> Segment
-    requires { ⌜ Listed slots (now vertices) (now polygons) p ⌝ }
-    requires { ⌜ i < cornerCount (polygonAt slots (now polygons) p) ⌝ }
-    ensures { λ r. ⌜ r ≡ edge (floorOf slots (now (vertices .entry)) (now (polygons .entry))) p i ⌝ }
-{
-    let a = stored::corner(polygons, slots, p, i) as usize;
-    let b = stored::corner_after(polygons, slots, p, i) as usize;
-    let start = stored::used_vertex(vertices, a);
-    let end = stored::used_vertex(vertices, b);
-    Segment(start, end)
-}
-
-// Whether a point is Right of edge i of polygon p.
-fn is_right(
-    vertices: &[u8],
-    polygons: &[u8],
-    slots: usize,
-    p: usize,
-    i: usize,
-    point: Point,
-) -> bool
-    requires { ⌜ Listed slots (now vertices) (now polygons) p ⌝ }
-    requires { ⌜ i < cornerCount (polygonAt slots (now polygons) p) ⌝ }
-    ensures { λ r. ⌜ r ≡ sameSideOf (sideOf point (edge (floorOf slots (now (vertices .entry)) (now (polygons .entry))) p i)) Right ⌝ }
-{
-    let line = edge(vertices, polygons, slots, p, i);
-    point::same_side(point.side(line), EdgeSide::Right)
-}
-
-// A polygon contains a point that is Right of none of its edges.
-pub fn contains(vertices: &[u8], polygons: &[u8], slots: usize, p: usize, point: Point) -> bool
-    requires { ⌜ Listed slots (now vertices) (now polygons) p ⌝ }
-    ensures { λ r. ⌜ r ≡ contains (floorOf slots (now (vertices .entry)) (now (polygons .entry))) point p ⌝ }
-{
-    let n = stored::corner_count(polygons, slots, p);
-    let mut i = 0;
-    while i < n {
-        if is_right(vertices, polygons, slots, p, i, point) {
-            return false;
-        }
-        i += 1;
-    }
-    true
-}
-
-// The lowest-numbered polygon that contains a point, or the number of polygons.
-pub fn polygon_of(vertices: &[u8], polygons: &[u8], slots: usize, point: Point) -> usize
-    requires { ⌜ (0 < slots) × (slots ≤ 16) × Accepted (floorOf slots (now vertices) (now polygons)) ⌝ }
-    ensures { λ r. ⌜ r ≡ polygonOf (floorOf slots (now (vertices .entry)) (now (polygons .entry))) point ⌝ }
-{
-    let n = stored::polygon_count(polygons, slots);
-    let mut p = 0;
-    while p < n {
-        if contains(vertices, polygons, slots, p, point) {
-            return p;
-        }
-        p += 1;
-    }
-    p
-}
-
 // 7: the question's bytes and coordinates.
 fn question_right(question: &[u8]) -> bool
     ensures { λ r. ⌜ r ≡ questionRight (now (question .entry)) ⌝ }
@@ -230,11 +159,11 @@ pub fn ask(vertices: &[u8], polygons: &[u8], question: &[u8]) -> Look
         return Look::Refused(Refusal::Question);
     }
     let n = stored::polygon_count(polygons, SLOTS);
-    let start = polygon_of(vertices, polygons, SLOTS, stored::question_start(question));
+    let start = edges::polygon_of(vertices, polygons, SLOTS, stored::question_start(question));
     if n <= start {
         return Look::Refused(Refusal::StartOutside);
     }
-    let goal = polygon_of(vertices, polygons, SLOTS, stored::question_goal(question));
+    let goal = edges::polygon_of(vertices, polygons, SLOTS, stored::question_goal(question));
     if n <= goal {
         return Look::Refused(Refusal::GoalOutside);
     }

@@ -5,7 +5,7 @@ use mathlib.Core.List.{List}
 use lib.Dec.{ltb}
 use Rattle.floor.specs.declared.FloorLook.{FloorLook}
 use Rattle.floor.specs.declared.FloorLook.the-variants.{Accepted, Faulty}
-use Rattle.floor.specs.Where.{isMarked}
+use Rattle.edges.specs.Where.{isMarked}
 use Rattle.floor.specs.Look.{refusalNumber}
 
 -- 01's table: "0 .. accepted", else the refusal's number

@@ -6,7 +6,7 @@ ghost use Prim.Native.Nat.{_/_, _≤_};
 ghost use lib.ListN.{length};
 ghost use Rattle.stored.specs.Stored.{floorOf};
 ghost use Rattle.faults.specs.Accepted.{Accepted};
-ghost use Rattle.floor.specs.Where.{marksOf};
+ghost use Rattle.edges.specs.Where.{marksOf};
 ghost use Rattle.floor.specs.Look.{floorLookOf};
 ghost use Rattle.floor_c.specs.Numbers.{lookNumber, markNumber, turnNumber};
 use floor::FloorLook;
@@ -27,11 +27,11 @@ fn mark(vertices: &[u8], polygons: &[u8], v: usize) -> u32
     requires { ⌜ Accepted (floorOf 8 (now vertices) (now polygons)) × (length (now vertices) / 8 ≤ 1024) ⌝ }
     ensures { λ r. ⌜ r ≡ markNumber (marksOf (floorOf 8 (now (vertices .entry)) (now (polygons .entry)))) v ⌝ }
 {
-    let marks = floor::turns::turn_vertices(vertices, polygons, floor::SLOTS);
+    let marks = edges::turns::turn_vertices(vertices, polygons, floor::SLOTS);
     if 1024 <= v {
         return 0;
     }
-    if floor::turns::turns(&marks, v) {
+    if edges::turns::turns(&marks, v) {
         return 1;
     }
     0

@@ -16,7 +16,7 @@ use Rattle.walk.specs.Round.{Successor}
 use Rattle.stored.specs.Stored.{Floor, Polygon, unused, polygonAt, floorOf, corner, neighbour, cornerCount, cornerAfter, polygon}
 use Rattle.faults.specs.Accepted.{Accepted, Links, Back}
 use Rattle.stored.proofs.Records.{polygon-is, polygon-count}
-use Rattle.floor.proofs.Inside.{listed-of, corner-below, after-below}
+use Rattle.edges.proofs.Inside.{listed-of, corner-below, after-below}
 use Rattle.route.specs.declared.Step.{Step}
 use Rattle.route.specs.World.{_∈_}
 use Rattle.steps.specs.declared.Node.{Node}

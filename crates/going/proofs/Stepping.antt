@@ -10,7 +10,7 @@ use Rattle.walk.specs.declared.Part.{Part}
 use Rattle.walk.specs.Walk.{partAt}
 use Rattle.walk.specs.Turns.{isOverOf}
 use Rattle.stored.specs.Stored.{Floor, Polygon, floorOf, polygonAt}
-use Rattle.floor.proofs.Inside.{slot-inside}
+use Rattle.edges.proofs.Inside.{slot-inside}
 use Rattle.steps.specs.declared.Node.{Node}
 use Rattle.going.specs.declared.Going.{Going}
 use Rattle.view.specs.declared.View.{View}

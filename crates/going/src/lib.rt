@@ -75,7 +75,7 @@ fn on_edge(vertices: &[u8], polygons: &[u8], slots: usize, node: Node, round: Ro
     ensures { λ r. ⌜ r ≡ onEdge (floorOf slots (now (vertices .entry)) (now (polygons .entry))) node round ⌝ }
 {
     let i = round.edge();
-    let edge = floor::edge(vertices, polygons, slots, node.polygon as usize, i);
+    let edge = edges::edge(vertices, polygons, slots, node.polygon as usize, i);
     let kind = round.kind;
     let walked = walk_by(node, edge, kind);
     Going {

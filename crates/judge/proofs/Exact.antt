@@ -10,7 +10,7 @@ use Rattle.word.specs.Word.{Bytes}
 use Rattle.floor.specs.declared.Look.{Look}
 use Rattle.floor.specs.declared.Look.the-variants.{Inside as LookInside, Refused as LookRefused}
 use Rattle.stored.specs.Stored.{Floor, floorOf, questionOf}
-use Rattle.floor.specs.Where.{polygonOf}
+use Rattle.edges.specs.Where.{polygonOf}
 use Rattle.floor.specs.Look.{lookOf}
 use Rattle.floor.proofs.Exact.{in-some, polygon-is-least, least-is-polygon, each-exactly}
 use Rattle.route.specs.World.{World, Lawful}

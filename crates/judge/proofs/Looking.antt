@@ -8,7 +8,7 @@ use Rattle.floor.specs.declared.Look.the-variants.{Inside}
 use Rattle.point.specs.declared.Point.{Point}
 use Rattle.stored.specs.Stored.{Floor, Question, floorOf, questionOf}
 use Rattle.faults.specs.Accepted.{Accepted}
-use Rattle.floor.specs.Where.{marksOf, polygonOf}
+use Rattle.edges.specs.Where.{marksOf, polygonOf}
 use Rattle.floor.specs.Look.{lookOf}
 use Rattle.stored.proofs.Records.{polygon-count}
 use Rattle.floor.proofs.Exact.{each-exactly, least-is-polygon}

@@ -5,7 +5,7 @@ use mathlib.Core.List.{List}
 use lib.ListN.{length}
 use Rattle.stored.specs.Stored.{floorOf}
 use Rattle.faults.specs.Accepted.{Accepted}
-use Rattle.floor.specs.Where.{marksOf}
+use Rattle.edges.specs.Where.{marksOf}
 
 pub record Ready (slots : ℕ) (vertices polygons marks : List ℕ) : Type 0 where
   pub some : 0 < slots

@@ -87,7 +87,7 @@ pub fn judge(vertices: &[u8], polygons: &[u8], question: &[u8], route: &[u8]) ->
     let look = floor::look_at(vertices, polygons, question);
     match look {
         Look::Inside(from, to) => {
-            let marks = floor::turns::turn_vertices(vertices, polygons, SLOTS);
+            let marks = edges::turns::turn_vertices(vertices, polygons, SLOTS);
             let start = stored::question_start(question);
             let goal = stored::question_goal(question);
             let judged = judge_route(

@@ -4,7 +4,7 @@ ghost use mathlib.Core.Path.{_≡_};
 ghost use Prim.Native.Nat.{_+_, _*_, _/_, _≤_};
 ghost use lib.ListN.{length};
 ghost use Rattle.stored.specs.Stored.{floorOf};
-ghost use Rattle.floor.specs.Where.{marksOf};
+ghost use Rattle.edges.specs.Where.{marksOf};
 ghost use Rattle.route.specs.Record.{recordAt};
 ghost use Rattle.route.specs.Judge.{findStep};
 ghost use Rattle.steps.specs.Steps.{stepsFrom};

@@ -11,7 +11,7 @@ use lib.Ieee.{Float, nan, inf, fin}
 use Rattle.point.specs.declared.Point.{Point}
 use Rattle.stored.specs.Stored.{Floor, floorOf}
 use Rattle.faults.specs.Accepted.{Accepted}
-use Rattle.floor.specs.Where.{marksOf}
+use Rattle.edges.specs.Where.{marksOf}
 use Rattle.route.specs.World.{_∈_}
 use Rattle.steps.specs.declared.Node.{Node}
 use Rattle.steps.specs.Steps.{stepsFrom, enter}

@@ -9,7 +9,7 @@ use Rattle.walk.specs.Walk.{partAt}
 use Rattle.walk.specs.Turns.{isOverOf, edgeNumberOf}
 use Rattle.stored.specs.Stored.{Floor, floorOf, polygonAt, polygon}
 use Rattle.stored.proofs.Records.{polygon-is}
-use Rattle.floor.proofs.Inside.{slot-inside}
+use Rattle.edges.proofs.Inside.{slot-inside}
 use Rattle.route.specs.declared.Step.{Step}
 use Rattle.steps.specs.declared.Node.{Node}
 use Rattle.view.specs.declared.View.{View}

@@ -17,7 +17,7 @@ use Rattle.helpers.specs.Helpers.{turningPointOf}
 use Rattle.cut.specs.declared.SuccessorType.{SuccessorType}
 use Rattle.cut.specs.declared.SuccessorType.the-variants.{LeftNonObservable, Observable, RightNonObservable}
 use Rattle.stored.specs.Stored.{Floor, floorOf, questionOf, vertex}
-use Rattle.floor.specs.Where.{polygonOf}
+use Rattle.edges.specs.Where.{polygonOf}
 use Rattle.route.specs.declared.Step.{Step}
 use Rattle.route.specs.declared.Sought.{Sought}
 use Rattle.route.specs.declared.Sought.the-variants.{Found, Missing}

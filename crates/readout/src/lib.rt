@@ -224,7 +224,7 @@ pub fn read_out(
     let look = floor::look_at(vertices, polygons, question);
     match look {
         Look::Inside(from, to) => {
-            let marks = floor::turns::turn_vertices(vertices, polygons, SLOTS);
+            let marks = edges::turns::turn_vertices(vertices, polygons, SLOTS);
             let start = stored::question_start(question);
             let goal = stored::question_goal(question);
             read_route(

@@ -20,7 +20,7 @@ use Rattle.floor.specs.declared.Look.{Look}
 use Rattle.floor.specs.declared.Look.the-variants.{Inside, Refused}
 use Rattle.stored.specs.Stored.{Floor, Question, floorOf, questionOf}
 use Rattle.faults.specs.Tests.{coordinateRight, pointRight, questionRight}
-use Rattle.floor.specs.Where.{polygonOf, marksOf}
+use Rattle.edges.specs.Where.{polygonOf, marksOf}
 use Rattle.floor.specs.Look.{floorLookOf, askOf, lookOf}
 use Rattle.stored.proofs.Records.{polygon-count}
 use Rattle.floor.proofs.Looked.{question-length}

@@ -151,7 +151,7 @@ pub fn search(
 {
     match floor::look_at_floor(vertices, polygons) {
         FloorLook::Accepted => {
-            let marks = floor::turns::turn_vertices(vertices, polygons, floor::SLOTS);
+            let marks = edges::turns::turn_vertices(vertices, polygons, floor::SLOTS);
             search_on(
                 vertices,
                 polygons,

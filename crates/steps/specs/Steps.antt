@@ -16,7 +16,7 @@ use Rattle.cut.specs.declared.SuccessorType.{SuccessorType}
 use Rattle.cut.specs.declared.SuccessorType.the-variants.{LeftNonObservable, Observable, RightNonObservable}
 use Rattle.walk.specs.Round.{Successor, successorsOf}
 use Rattle.stored.specs.Stored.{Floor, Polygon, unused, corner, neighbour, cornerCount, cornerAfter, polygon, vertex, edge}
-use Rattle.floor.specs.Where.{isTurn}
+use Rattle.edges.specs.Where.{isTurn}
 use Rattle.route.specs.declared.Step.{Step}
 use Rattle.steps.specs.declared.Node.{Node}
 use Rattle.steps.specs.declared.Permitted.{Permitted}

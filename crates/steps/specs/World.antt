@@ -10,7 +10,7 @@ use Rattle.helpers.specs.declared.Turn.the-variants.{Around, Straight}
 use Rattle.point.specs.Point.{distanceOf}
 use Rattle.helpers.specs.Helpers.{turningPointOf}
 use Rattle.stored.specs.Stored.{Floor, Question}
-use Rattle.floor.specs.Where.{polygonOf}
+use Rattle.edges.specs.Where.{polygonOf}
 use Rattle.route.specs.Record.{seedBytes, endBytes}
 use Rattle.route.specs.World.{World}
 use Rattle.steps.specs.declared.Node.{Node}

@@ -11,7 +11,7 @@ use Rattle.float.proofs.Tests.{untrue}
 use Rattle.stored.specs.Stored.{Floor, Polygon, floorOf, polygon, cornerCount}
 use Rattle.faults.specs.Accepted.{Accepted}
 use Rattle.stored.proofs.Records.{polygon-count, vertex-count, polygon-is}
-use Rattle.floor.proofs.Inside.{listed-of}
+use Rattle.edges.proofs.Inside.{listed-of}
 use Rattle.steps.specs.declared.Node.{Node}
 use Rattle.steps.specs.Steps.{placeOf, entryOf}
 use Rattle.going.specs.Going.{Stands}

@@ -4,7 +4,7 @@ ghost use mathlib.Core.Path.{_≡_};
 ghost use Prim.Native.Nat.{_/_, _≤_};
 ghost use lib.ListN.{length};
 ghost use Rattle.stored.specs.Stored.{floorOf};
-ghost use Rattle.floor.specs.Where.{marksOf};
+ghost use Rattle.edges.specs.Where.{marksOf};
 ghost use Rattle.steps.specs.Steps.{stepsFrom};
 ghost use Rattle.going.specs.Going.{Stands};
 ghost use Rattle.steps_c.specs.Kth.{kth, countedOf};

@@ -59,7 +59,7 @@ fn answer_on(vertices: &[u8], polygons: &[u8], goal: u32, node: Node, k: usize) 
     if !stand::is_on(vertices, polygons, node) {
         return Answer::Nowhere;
     }
-    let marks = floor::turns::turn_vertices(vertices, polygons, floor::SLOTS);
+    let marks = edges::turns::turn_vertices(vertices, polygons, floor::SLOTS);
     let permitted = kth::kth_step(vertices, polygons, &marks, goal, node, k);
     match permitted {
         Permitted::Yes(step) => Answer::Given(step),

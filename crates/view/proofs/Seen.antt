@@ -6,8 +6,8 @@ use mathlib.Core.List.{List}
 use lib.Dec.{eqb}
 use borrow.Author.Tests.{eq-eqb, ne-eqb}
 use Rattle.stored.specs.Stored.{Floor, Polygon, unused, corner, cornerAfter, neighbour, polygon}
-use Rattle.floor.specs.Where.{isTurn, isMarked, marksOf}
-use Rattle.floor.proofs.Turned.{marks-turn}
+use Rattle.edges.specs.Where.{isTurn, isMarked, marksOf}
+use Rattle.edges.proofs.Turned.{marks-turn}
 use Rattle.point.specs.declared.Segment.{Segment}
 use Rattle.point.specs.Point.{sameOf}
 use Rattle.cone.specs.declared.Clipped.{Clipped}

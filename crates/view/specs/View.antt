@@ -14,7 +14,7 @@ use Rattle.cut.specs.declared.SuccessorType.{SuccessorType}
 use Rattle.cut.specs.declared.SuccessorType.the-variants.{LeftNonObservable, Observable, RightNonObservable}
 use Rattle.walk.specs.declared.Part.{Part}
 use Rattle.stored.specs.Stored.{Floor, Polygon, unused, corner, neighbour, cornerAfter, vertex}
-use Rattle.floor.specs.Where.{isTurn}
+use Rattle.edges.specs.Where.{isTurn}
 use Rattle.steps.specs.declared.Node.{Node}
 use Rattle.view.specs.declared.Corner.{Corner}
 use Rattle.view.specs.declared.View.{View}

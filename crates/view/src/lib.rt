@@ -4,7 +4,7 @@ ghost use mathlib.Core.Path.{_≡_};
 ghost use Prim.Native.Nat.{_*_, _/_, _≤_, _<_};
 ghost use lib.ListN.{length};
 ghost use Rattle.stored.specs.Stored.{floorOf, polygonAt};
-ghost use Rattle.floor.specs.Where.{marksOf};
+ghost use Rattle.edges.specs.Where.{marksOf};
 ghost use Rattle.steps.specs.Steps.{isFinite, isInterval};
 ghost use Rattle.view.specs.View.{cornerOn, viewOf, allowsOf, turnedTo, seenBy, neighbourBy, overBy, stepBy};
 use cone::Clipped;
@@ -49,7 +49,7 @@ impl Corner {
         ensures { λ r. ⌜ r ≡ cornerOn (floorOf slots (now (vertices .entry)) (now (polygons .entry))) v end root ⌝ }
     {
         let at = stored::used_vertex(vertices, v as usize);
-        let turns = floor::turns::turns(marks, v as usize);
+        let turns = edges::turns::turns(marks, v as usize);
         let lands = cone::lands_on(end, at, root);
         Corner {
             at,

@@ -17,7 +17,7 @@ use Rattle.point.specs.Sides as Sides
 use Rattle.floor.specs.Look as Look
 use Rattle.stored.specs.Stored as Stored
 use Rattle.faults.specs.Tests as Tests
-use Rattle.floor.specs.Where as Where
+use Rattle.edges.specs.Where as Where
 use Rattle.route.specs.Judge as Judge
 use Rattle.route.specs.Record as Record
 use Rattle.route.specs.Step as Step

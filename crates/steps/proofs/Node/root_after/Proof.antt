@@ -1,6 +1,6 @@
 use denote.Ref.{now}
 use mathlib.Core.Path.{refl, sym, _∙_}
-use Rattle.floor.proofs.Inside.{vertex-used}
+use Rattle.edges.proofs.Inside.{vertex-used}
 use borrow.Author.Needs.{needs}
 use Rattle.steps.specs.Steps.{rootAfter}
 use Rattle.steps.proofs.Node.root_after.Statement.{statement}

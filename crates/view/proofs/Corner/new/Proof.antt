@@ -3,7 +3,7 @@ use mathlib.Core.Bool.{Bool}
 use native.Mathlib.Omega.{arith}
 use Rattle.view.proofs.Seen.{mark-tells}
 use denote.Ref.{now}
-use Rattle.floor.proofs.Inside.{vertex-used}
+use Rattle.edges.proofs.Inside.{vertex-used}
 use borrow.Author.Needs.{needs}
 use Rattle.view.specs.View.{cornerOn}
 use Rattle.view.proofs.Corner.new.Statement.{statement}

@@ -1,13 +1,13 @@
--- `floor::turns::mark_vertex` meets its contract: a 1 moved by less than 32 places stays in its word. Assumes nothing.
+-- `edges::turns::mark_vertex` meets its contract: a 1 moved by less than 32 places stays in its word. Assumes nothing.
 use Prim.Native.Nat.{_%_}
 use native.Mathlib.Nat.{one-mul}
 use native.Mathlib.Omega.{arith}
 use lib.Dec.{lit<}
 use lib.Pow.{shl-exact}
 use borrow.Author.Needs.{needs}
-use Rattle.floor.specs.Where.{markVertex}
-use Rattle.floor.proofs.turns.mark_vertex.Statement.{statement}
-use Rattle.floor.proofs.turns.mark_vertex.Tie as tie
+use Rattle.edges.specs.Where.{markVertex}
+use Rattle.edges.proofs.turns.mark_vertex.Statement.{statement}
+use Rattle.edges.proofs.turns.mark_vertex.Tie as tie
 
 mul-marks : tie.Need-mul-marks
 mul-marks c = search needs

@@ -1,8 +1,8 @@
--- `floor::turns::turns` meets its contract. Assumes nothing.
+-- `edges::turns::turns` meets its contract. Assumes nothing.
 use borrow.Author.Needs.{needs}
-use Rattle.floor.specs.Where.{isMarked}
-use Rattle.floor.proofs.turns.turns.Statement.{statement}
-use Rattle.floor.proofs.turns.turns.Tie as tie
+use Rattle.edges.specs.Where.{isMarked}
+use Rattle.edges.proofs.turns.turns.Statement.{statement}
+use Rattle.edges.proofs.turns.turns.Tie as tie
 
 mul-result : tie.Need-mul-result
 mul-result c = search needs

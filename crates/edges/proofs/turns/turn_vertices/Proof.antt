@@ -1,9 +1,9 @@
--- `floor::turns::turn_vertices` meets its contract. Assumes nothing.
-use Rattle.floor.specs.Where.{marksOf}
+-- `edges::turns::turn_vertices` meets its contract. Assumes nothing.
+use Rattle.edges.specs.Where.{marksOf}
 use Rattle.stored.proofs.Records.{polygon-count}
 use borrow.Author.Needs.{needs}
-use Rattle.floor.proofs.turns.turn_vertices.Statement.{statement}
-use Rattle.floor.proofs.turns.turn_vertices.Tie as tie
+use Rattle.edges.proofs.turns.turn_vertices.Statement.{statement}
+use Rattle.edges.proofs.turns.turn_vertices.Tie as tie
 
 mark-polygons-requires : tie.Need-mark-polygons-requires
 mark-polygons-requires c κs = search needs

@@ -4,14 +4,14 @@ use borrow.Author.Count.{below-none, below-more}
 use borrow.Author.Needs.{needs}
 use mathlib.Core.Path.{_≡_, sym}
 use native.Mathlib.Omega.{arith}
-use Rattle.floor.specs.Where.{contains}
+use Rattle.edges.specs.Where.{contains}
 use mathlib.Core.Bool.{true, false, not}
 use Rattle.point.specs.declared.EdgeSide.the-variants.{Right}
 use Rattle.point.specs.Sides.{sideOf, sameSideOf}
 use Rattle.stored.specs.Stored.{floorOf, edge}
 use Rattle.stored.proofs.Records.{polygon-is}
-use Rattle.floor.proofs.contains.Statement.{statement}
-use Rattle.floor.proofs.contains.Tie as tie
+use Rattle.edges.proofs.contains.Statement.{statement}
+use Rattle.edges.proofs.contains.Tie as tie
 
 abbrev Inv-loop : tie.InvT-loop
 Inv-loop vertices polygons slots p point n i₀ i = (i ≤ n) × ((k : ℕ) → k < i → not (sameSideOf (sideOf point (edge (floorOf slots vertices polygons) p k)) Right) ≡ true)

@@ -1,13 +1,13 @@
--- `floor::turns::mark_edge` meets its contract: both ends of an edge are vertices of the list. Assumes nothing.
+-- `edges::turns::mark_edge` meets its contract: both ends of an edge are vertices of the list. Assumes nothing.
 use native.Mathlib.Omega.{arith}
 use mathlib.Core.Path.{refl}
 use borrow.Author.Tests.{eq-eqb, ne-eqb}
 use denote.Ref.{now}
-use Rattle.floor.specs.Where.{markEdge}
-use Rattle.floor.proofs.Inside.{slot-inside, ends-inside}
+use Rattle.edges.specs.Where.{markEdge}
+use Rattle.edges.proofs.Inside.{slot-inside, ends-inside}
 use borrow.Author.Needs.{needs}
-use Rattle.floor.proofs.turns.mark_edge.Statement.{statement}
-use Rattle.floor.proofs.turns.mark_edge.Tie as tie
+use Rattle.edges.proofs.turns.mark_edge.Statement.{statement}
+use Rattle.edges.proofs.turns.mark_edge.Tie as tie
 
 neighbour-requires : tie.Need-neighbour-requires
 neighbour-requires c κs = (c .before .before .pre .0 .few, slot-inside (c .before .before .args .slots) (now (c .before .before .args .vertices)) (now (c .before .before .args .polygons)) (c .before .before .args .p) (c .before .before .pre .0) (c .before .before .args .i) (c .before .before .pre .1 .0), c .before .before .pre .0 .listed)

@@ -1,6 +1,6 @@
 use borrow.Author.Needs.{needs}
-use Rattle.floor.proofs.is_right.Statement.{statement}
-use Rattle.floor.proofs.is_right.Tie as tie
+use Rattle.edges.proofs.is_right.Statement.{statement}
+use Rattle.edges.proofs.is_right.Tie as tie
 
 edge-requires : tie.Need-edge-requires
 edge-requires c κs = search needs

@@ -1,9 +1,9 @@
--- `floor::edge` meets its contract: both vertices of an edge are inside the vertex list. Assumes nothing.
+-- `edges::edge` meets its contract: both vertices of an edge are inside the vertex list. Assumes nothing.
 use denote.Ref.{now}
-use Rattle.floor.proofs.Inside.{slot-inside, corner-below, after-below, edge-stored}
+use Rattle.edges.proofs.Inside.{slot-inside, corner-below, after-below, edge-stored}
 use borrow.Author.Needs.{needs}
-use Rattle.floor.proofs.edge.Statement.{statement}
-use Rattle.floor.proofs.edge.Tie as tie
+use Rattle.edges.proofs.edge.Statement.{statement}
+use Rattle.edges.proofs.edge.Tie as tie
 
 corner-requires : tie.Need-corner-requires
 corner-requires c κs = (c .before .before .pre .0 .few, slot-inside (c .before .before .args .slots) (now (c .before .before .args .vertices)) (now (c .before .before .args .polygons)) (c .before .before .args .p) (c .before .before .pre .0) (c .before .before .args .i) (c .before .before .pre .1), c .before .before .pre .0 .listed)

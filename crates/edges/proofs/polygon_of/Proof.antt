@@ -5,14 +5,14 @@ use borrow.Author.Count.{below-none, below-more}
 use borrow.Author.Needs.{needs}
 use mathlib.Core.Path.{_≡_, sym}
 use native.Mathlib.Omega.{arith}
-use Rattle.floor.specs.Where.{polygonOf}
+use Rattle.edges.specs.Where.{polygonOf}
 use mathlib.Core.Bool.{true, false, not}
 use Rattle.stored.specs.Stored.{floorOf}
-use Rattle.floor.specs.Where.{contains}
+use Rattle.edges.specs.Where.{contains}
 use Rattle.stored.proofs.Records.{polygon-count}
-use Rattle.floor.proofs.Inside.{listed-of}
-use Rattle.floor.proofs.polygon_of.Statement.{statement}
-use Rattle.floor.proofs.polygon_of.Tie as tie
+use Rattle.edges.proofs.Inside.{listed-of}
+use Rattle.edges.proofs.polygon_of.Statement.{statement}
+use Rattle.edges.proofs.polygon_of.Tie as tie
 
 abbrev Inv-loop : tie.InvT-loop
 Inv-loop vertices polygons slots point n p₀ p = (p ≤ n) × ((k : ℕ) → k < p → contains (floorOf slots vertices polygons) point k ≡ false)

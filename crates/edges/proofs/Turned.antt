@@ -14,7 +14,7 @@ use lib.Pow.{pow-add, pow-lt, shl-shr}
 use lib.Seq.{getD-set-same, getD-set-other}
 use Rattle.counts.specs.Counts.{some}
 use Rattle.stored.specs.Stored.{Floor, Polygon, unused, corner, neighbour, cornerCount, cornerAfter, polygon}
-use Rattle.floor.specs.Where.{turnsAt, isTurn, isMarked, markVertex, markEdge, markEdges, markPolygons, marksOf}
+use Rattle.edges.specs.Where.{turnsAt, isTurn, isMarked, markVertex, markEdge, markEdges, markPolygons, marksOf}
 
 -- true where one of two says so, else what was there
 either : (a b x : Bool) → cond b true (cond a true x) ≡ cond (a || b) true x

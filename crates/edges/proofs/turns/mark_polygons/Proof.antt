@@ -3,14 +3,14 @@ use borrow.Author.Needs.{needs}
 use mathlib.Core.Path.{_≡_, refl}
 use native.Mathlib.Numerals.{add-one}
 use native.Mathlib.Omega.{arith}
-use Rattle.floor.specs.Where.{markPolygons}
+use Rattle.edges.specs.Where.{markPolygons}
 use mathlib.Core.Path.{sym, _∙_}
 use denote.Ref.{now}
 use Rattle.stored.specs.Stored.{polygonAt, floorOf}
 use Rattle.stored.proofs.Records.{polygon-is}
-use Rattle.floor.proofs.Inside.{listed-of}
-use Rattle.floor.proofs.turns.mark_polygons.Statement.{statement}
-use Rattle.floor.proofs.turns.mark_polygons.Tie as tie
+use Rattle.edges.proofs.Inside.{listed-of}
+use Rattle.edges.proofs.turns.mark_polygons.Statement.{statement}
+use Rattle.edges.proofs.turns.mark_polygons.Tie as tie
 
 abbrev Inv-loop : tie.InvT-loop
 Inv-loop vertices polygons slots marks₀ n p₀ marks p = (p ≤ n) × (marks ≡ markPolygons (floorOf slots vertices polygons) p marks₀)

@@ -3,11 +3,11 @@ use borrow.Author.Needs.{needs}
 use mathlib.Core.Path.{_≡_, refl}
 use native.Mathlib.Numerals.{add-one}
 use native.Mathlib.Omega.{arith}
-use Rattle.floor.specs.Where.{markEdges}
+use Rattle.edges.specs.Where.{markEdges}
 use Rattle.stored.specs.Stored.{polygonAt, floorOf}
-use Rattle.floor.proofs.Inside.{listed-of}
-use Rattle.floor.proofs.turns.mark_edges.Statement.{statement}
-use Rattle.floor.proofs.turns.mark_edges.Tie as tie
+use Rattle.edges.proofs.Inside.{listed-of}
+use Rattle.edges.proofs.turns.mark_edges.Statement.{statement}
+use Rattle.edges.proofs.turns.mark_edges.Tie as tie
 
 abbrev Inv-loop : tie.InvT-loop
 Inv-loop vertices polygons slots p marks₀ n i₀ marks i = (i ≤ n) × (marks ≡ markEdges (polygonAt slots polygons p) i marks₀)

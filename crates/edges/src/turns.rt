@@ -5,7 +5,7 @@ ghost use Prim.Native.Nat.{_*_, _/_, _≤_, _<_};
 ghost use lib.ListN.{length};
 ghost use Rattle.stored.specs.Stored.{polygonAt, floorOf, polygon, cornerCount};
 ghost use Rattle.faults.specs.Accepted.{Accepted, Listed};
-ghost use Rattle.floor.specs.Where.{isMarked, markVertex, markEdge, markEdges, markPolygons, marksOf};
+ghost use Rattle.edges.specs.Where.{isMarked, markVertex, markEdge, markEdges, markPolygons, marksOf};
 use stored::UNUSED;
 use stored::corner;
 use stored::corner_after;

@@ -1,0 +1,3 @@
+-- The laws of edges and turn vertices that belong to no one function.
+pub mod Inside
+pub mod Turned

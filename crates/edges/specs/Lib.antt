@@ -1,0 +1,2 @@
+-- What the contracts of `edges` cite.
+pub mod Where
