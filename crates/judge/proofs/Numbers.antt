@@ -79,7 +79,7 @@ module _ (s : ℕ) (vs ps question : List ℕ) (bytes : Bytes ps) (inside : Insi
 
   number-is : (route : List ℕ) → verdictNumber (verdict route) ≡ judgedNumber (judgeOf w route)
   unfolding verdictNumber
-  number-is route = rw (verdict-inside s vs ps question route inside)
+  number-is route = rw (verdict-inside s vs ps question route inside) refl
 
   record-is : (route : List ℕ) → verdictRecord (verdict route) ≡ judgedRecord (judgeOf w route)
   unfolding verdictRecord

@@ -19,13 +19,13 @@ returns : tie.Need-returns
 unfolding verdictNumber
 returns c =
     let c2 = c .before .before in
-    rw (c2 .self .given .1, ← c .number .ensures)
+    rw (c2 .self .given .1) (c .number .ensures)
 
 returns-2 : tie.Need-returns-2
 unfolding verdictNumber
 returns-2 c =
     let c2 = c .before .before in
-    rw (c2 .self2 .given .1, ← c .number2 .ensures)
+    rw (c2 .self2 .given .1) (c .number2 .ensures)
 
 pub number-spec : {M : Type 1} → statement M
 number-spec =

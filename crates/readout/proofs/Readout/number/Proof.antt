@@ -1,3 +1,4 @@
+use mathlib.Core.Path.{refl}
 use borrow.Author.Needs.{needs}
 use Rattle.readout.specs.Readout.{readoutNumber}
 use Rattle.readout.proofs.Readout.number.Statement.{statement}
@@ -23,11 +24,11 @@ returns c =
 
 returns-2 : tie.Need-returns-2
 unfolding readoutNumber
-returns-2 c = rw (c .enum-told .given .1)
+returns-2 c = rw (c .enum-told .given .1) refl
 
 returns-3 : tie.Need-returns-3
 unfolding readoutNumber
-returns-3 c = rw (c .enum-told2 .given .1)
+returns-3 c = rw (c .enum-told2 .given .1) refl
 
 pub number-spec : {M : Type 1} → statement M
 number-spec =

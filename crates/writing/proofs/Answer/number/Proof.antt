@@ -1,3 +1,4 @@
+use mathlib.Core.Path.{refl}
 -- `writing::Answer::number` meets its contract. Assumes nothing.
 use borrow.Author.Needs.{needs}
 use Rattle.writing.specs.Answers.{answerNumber}
@@ -30,11 +31,11 @@ enum-told-6 c = search needs
 
 returns : tie.Need-returns
 unfolding answerNumber
-returns c = rw (c .enum-told .given .1)
+returns c = rw (c .enum-told .given .1) refl
 
 returns-2 : tie.Need-returns-2
 unfolding answerNumber
-returns-2 c = rw (c .enum-told2 .given .1)
+returns-2 c = rw (c .enum-told2 .given .1) refl
 
 returns-3 : tie.Need-returns-3
 unfolding answerNumber
@@ -44,19 +45,19 @@ returns-3 c =
 
 returns-4 : tie.Need-returns-4
 unfolding answerNumber
-returns-4 c = rw (c .enum-told3 .given .1)
+returns-4 c = rw (c .enum-told3 .given .1) refl
 
 returns-5 : tie.Need-returns-5
 unfolding answerNumber
-returns-5 c = rw (c .enum-told4 .given .1)
+returns-5 c = rw (c .enum-told4 .given .1) refl
 
 returns-6 : tie.Need-returns-6
 unfolding answerNumber
-returns-6 c = rw (c .enum-told5 .given .1)
+returns-6 c = rw (c .enum-told5 .given .1) refl
 
 returns-7 : tie.Need-returns-7
 unfolding answerNumber
-returns-7 c = rw (c .enum-told6 .given .1)
+returns-7 c = rw (c .enum-told6 .given .1) refl
 
 pub number-spec : {M : Type 1} → statement M
 number-spec =
