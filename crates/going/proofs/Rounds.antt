@@ -1,22 +1,22 @@
 -- The rounds of a node's polygon, on an accepted floor: every edge that is on is one of the polygon's, and yields one to three parts. Assumes nothing.
 use Prim.Native.Nat.{ℕ, _+_, _-_, _≤_, _<_}
 use native.Mathlib.Omega.{arith}
-use mathlib.Core.Path.{_≡_, refl, sym, ap, _∙_}
+use mathlib.Core.Path.{_≡_, refl, sym, _∙_}
 use mathlib.Core.Bool.{Bool, true, false}
 use mathlib.Core.List.{List}
-use borrow.Author.Tests.{leb-false, lt-leb}
+use borrow.Author.Tests.{leb-false}
 use lib.ListN.{length}
 use Rattle.point.specs.declared.Segment.{Segment}
 use Rattle.cut.specs.declared.SuccessorType.{SuccessorType}
 use Rattle.walk.specs.declared.round.Round.{Round}
 use Rattle.walk.specs.Walk.{walkEdgeOf, walkedOf, oneOf}
-use Rattle.walk.specs.Turns.{beginOf, isOverOf, edgeNumberOf}
+use Rattle.walk.specs.Turns.{beginOf, isOverOf, edgeNumberOf, nextOf}
 use Rattle.walk.proofs.Laws.{count-is-one-to-three, array-is-of-three, another}
-use Rattle.stored.specs.Stored.{Floor, polygonAt, floorOf, cornerCount, polygon}
+use Rattle.stored.specs.Stored.{Floor, Polygon, polygonAt, floorOf, cornerCount, polygon, edge}
 use Rattle.stored.proofs.Records.{polygon-is}
 use Rattle.steps.specs.declared.Node.{Node}
 use Rattle.steps.specs.Steps.{placeOf, entryOf}
-use Rattle.going.specs.Going.{wholeOf, walkBy, entryFor, countFor, Stands, Turning}
+use Rattle.going.specs.Going.{wholeOf, walkBy, entryFor, countFor, beginRound, walkedOn, Yielded, Stands, Turning, Goes}
 
 -- ---- a node is the seed, or it is not
 
@@ -59,72 +59,95 @@ module _ (node : Node) (edge : Segment) (kind : SuccessorType) where
       (λ e. rw (walk-of-seed e) three-whole)
       (λ e. rw (walk-of-node e) (array-is-of-three (node .root) (node .interval) edge kind))
 
+pub on-yields : (f : Floor) (node : Node) (round : Round) → Yielded (walkedOn f node round)
+unfolding walkedOn
+on-yields f node round =
+    let on = edge f (node .polygon) (edgeNumberOf round) in
+    record { few = one-to-three-on node on (round .kind) .1; three = array-of-three-on node on (round .kind) }
+
 -- ---- round the polygon
 
-module _ (f : Floor) (node : Node) where
-  pub entry-of-seed : node .seed ≡ true → entryFor f node ≡ cornerCount (polygon f (node .polygon))
+abbrev pub edgesLeft : Round → ℕ
+edgesLeft round = round .count - round .taken
+
+module _ (q : Polygon) (node : Node) where
+  pub entry-of-seed : node .seed ≡ true → entryFor q node ≡ cornerCount q
   unfolding entryFor
   entry-of-seed e = rw e
 
-  pub entry-of-node : node .seed ≡ false → entryFor f node ≡ entryOf f node
+  pub entry-of-node : node .seed ≡ false → entryFor q node ≡ placeOf q (cornerCount q) (node .second)
   unfolding entryFor
   entry-of-node e = rw e
 
-  pub count-of-seed : node .seed ≡ true → countFor f node ≡ cornerCount (polygon f (node .polygon)) + 1
+  pub count-of-seed : node .seed ≡ true → countFor q node ≡ cornerCount q + 1
   unfolding countFor
   count-of-seed e = rw e
 
-  pub count-of-node : node .seed ≡ false → countFor f node ≡ cornerCount (polygon f (node .polygon))
+  pub count-of-node : node .seed ≡ false → countFor q node ≡ cornerCount q
   unfolding countFor
   count-of-node e = rw e
+
+  -- the round that the code begins with, from the corner count that it found
+  module _ (m : ℕ) (found : m ≡ cornerCount q) (round : Round) where
+    pub seed-begins : node .seed ≡ true → round ≡ beginOf m (m + 1) → round ≡ beginRound q node
+    unfolding beginRound
+    seed-begins e r = rw (entry-of-seed e, count-of-seed e, ← found) r
+
+    pub node-begins : node .seed ≡ false → (entry : ℕ) → entry ≡ placeOf q m (node .second) → round ≡ beginOf entry m → round ≡ beginRound q node
+    unfolding beginRound
+    node-begins e entry at r = rw (entry-of-node e, count-of-node e, ← found, ← at) r
 
 module _ (s : ℕ) (vs ps : List ℕ) (node : Node) (h : Stands s vs ps node) where
   abbrev f : Floor
   f = floorOf s vs ps
 
-  pub its-polygon : polygon f (node .polygon) ≡ polygonAt s ps (node .polygon)
+  abbrev q : Polygon
+  q = polygonAt s ps (node .polygon)
+
+  pub its-polygon : polygon f (node .polygon) ≡ q
   its-polygon = polygon-is s vs ps (node .polygon) (h .listed .listed)
 
   abbrev n : ℕ
-  n = cornerCount (polygonAt s ps (node .polygon))
+  n = cornerCount q
 
-  its-count : cornerCount (polygon f (node .polygon)) ≡ n
-  its-count = ap cornerCount its-polygon
+  pub its-entry : node .seed ≡ false → placeOf q n (node .second) < n
+  unfolding entryOf
+  its-entry e = rw its-polygon at (h .entered e)
 
-  pub three-at-least : 3 ≤ countFor f node
+  pub three-at-least : 3 ≤ countFor q node
   three-at-least =
       by-seed node
-      (λ e. rw (count-of-seed f node e, its-count) (omega (arith, h .listed .corners .three)))
-      (λ e. rw (count-of-node f node e, its-count) (h .listed .corners .three))
+      (λ e. rw (count-of-seed q node e) (omega (arith, h .listed .corners .three)))
+      (λ e. rw (count-of-node q node e) (h .listed .corners .three))
 
-  pub entry-in-count : entryFor f node < countFor f node
+  pub entry-in-count : entryFor q node < countFor q node
   entry-in-count =
       by-seed node
-      (λ e. rw (count-of-seed f node e, entry-of-seed f node e, its-count) (omega arith))
-      (λ e. rw (count-of-node f node e, entry-of-node f node e, its-count) (h .entered e))
+      (λ e. rw (count-of-seed q node e, entry-of-seed q node e) (omega arith))
+      (λ e. rw (count-of-node q node e, entry-of-node q node e) (its-entry e))
 
   -- a round of the node's polygon that is not over has one of its edges on
-  module _ (round : Round) (entry-is : round .entry ≡ entryFor f node) (count-is : round .count ≡ countFor f node) (on : isOverOf round ≡ false) where
+  module _ (round : Round) (goes : Goes q node round) (on : isOverOf round ≡ false) where
     pub more-than-taken : round .taken + 1 < round .count
     unfolding isOverOf
     more-than-taken = leb-false (round .count) (round .taken + 1) on
 
     entry-in : round .entry < round .count
-    entry-in = rw (entry-is, count-is) entry-in-count
+    entry-in = rw (goes .entry-is, goes .count-is) entry-in-count
 
     other-edge : (edgeNumberOf round < round .count) × (edgeNumberOf round ≡ round .entry → ⊥)
     unfolding edgeNumberOf
     other-edge = another (round .count) (round .entry) entry-in (round .taken) (omega (arith, more-than-taken))
 
-    pub edge-of-polygon : edgeNumberOf round < n
+    edge-of-polygon : edgeNumberOf round < n
     edge-of-polygon =
         by-seed node
         (λ e.
-        let c : round .count ≡ n + 1 = count-is ∙ count-of-seed f node e ∙ ap (λ (k : ℕ). k + 1) its-count in
-        let a : round .entry ≡ n = entry-is ∙ entry-of-seed f node e ∙ its-count in
+        let c : round .count ≡ n + 1 = goes .count-is ∙ count-of-seed q node e in
+        let a : round .entry ≡ n = goes .entry-is ∙ entry-of-seed q node e in
         below-last (edgeNumberOf round) n (omega (arith, c, other-edge .0)) (λ same. other-edge .1 (same ∙ sym a)))
         (λ e.
-        let c : round .count ≡ n = count-is ∙ count-of-node f node e ∙ its-count in
+        let c : round .count ≡ n = goes .count-is ∙ count-of-node q node e in
         omega (arith, c, other-edge .0))
       where
         below-last : (a b : ℕ) → a < b + 1 → (a ≡ b → ⊥) → a < b
@@ -133,24 +156,15 @@ module _ (s : ℕ) (vs ps : List ℕ) (node : Node) (h : Stands s vs ps node) wh
     pub turning : Turning s ps node round
     turning = record { entry-in = entry-in; taken-in = omega (arith, more-than-taken); edge-in = edge-of-polygon }
 
-  pub begin-is-on : isOverOf (beginOf (entryFor f node) (countFor f node)) ≡ false
-  unfolding beginOf isOverOf
-  begin-is-on = lt-leb (countFor f node) (0 + 1) (omega (arith, three-at-least))
+    pub next-goes : (kind : SuccessorType) → Goes q node (nextOf round kind)
+    unfolding nextOf
+    next-goes kind = record { entry-is = goes .entry-is; count-is = goes .count-is; taken-in = more-than-taken }
 
-  pub begin-turning : Turning s ps node (beginOf (entryFor f node) (countFor f node))
-  begin-turning = turning (beginOf (entryFor f node) (countFor f node)) begin-entry begin-count begin-is-on
-    where
-      begin-entry : (beginOf (entryFor f node) (countFor f node)) .entry ≡ entryFor f node
-      begin-entry = unfold beginOf in refl
+    -- an edge fewer is left
+    pub fewer-left : (kind : SuccessorType) → edgesLeft (nextOf round kind) < edgesLeft round
+    unfolding nextOf
+    fewer-left kind = omega (arith, more-than-taken)
 
-      begin-count : (beginOf (entryFor f node) (countFor f node)) .count ≡ countFor f node
-      begin-count = unfold beginOf in refl
-
-  -- the round that the code begins with, from the corner count that it found
-  module _ (m : ℕ) (found : m ≡ cornerCount (polygonAt s ps (node .polygon))) (round : Round) where
-    pub seed-begins : node .seed ≡ true → round ≡ beginOf m (m + 1) → round ≡ beginOf (entryFor f node) (countFor f node)
-    seed-begins e r = rw (entry-of-seed f node e, count-of-seed f node e, its-count, ← found) r
-
-    pub node-begins : node .seed ≡ false → (entry : ℕ) → entry ≡ placeOf (polygonAt s ps (node .polygon)) m (node .second) → round ≡ beginOf entry m → round ≡ beginOf (entryFor f node) (countFor f node)
-    unfolding entryOf
-    node-begins e entry at r = rw (entry-of-node f node e, count-of-node f node e, its-count, its-polygon, ← found, ← at) r
+  pub begin-goes : Goes q node (beginRound q node)
+  unfolding beginRound beginOf
+  begin-goes = record { entry-is = refl; count-is = refl; taken-in = omega (arith, three-at-least) }

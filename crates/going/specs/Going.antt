@@ -1,24 +1,22 @@
--- The walk round a node's polygon, one part at a time: where it stands, where it goes next, and what is left. proofs/Left says that from the beginning on the
--- parts that are on are the candidates, in order. Assumes nothing.
-use Prim.Native.Nat.{ℕ, _+_, _-_, _/_, _<_}
+-- The walk round a node's polygon, an edge at a time: where it begins, what it yields on an edge, and what is left. proofs/Left says that from the beginning on
+-- what the edges yield are the candidates, in order. Assumes nothing.
+use Prim.Native.Nat.{ℕ, _+_, _-_, _/_, _≤_, _<_}
 use mathlib.Core.Path.{_≡_}
 use mathlib.Core.Bool.{false, cond}
 use mathlib.Core.List.{List, [], _∷_, _++_}
-use lib.Dec.{ltb}
-use lib.ListN.{length, drop}
+use lib.ListN.{length}
 use Rattle.point.specs.declared.Segment.{Segment}
 use Rattle.cut.specs.declared.SuccessorType.{SuccessorType}
 use Rattle.cut.specs.declared.SuccessorType.the-variants.{Observable}
 use Rattle.walk.specs.declared.Walked.{Walked}
 use Rattle.walk.specs.declared.round.Round.{Round}
-use Rattle.walk.specs.Walk.{walkEdgeOf, walkedOf, oneOf, partsOf, partAt}
+use Rattle.walk.specs.Walk.{walkEdgeOf, walkedOf, oneOf, partsOf}
 use Rattle.walk.specs.Round.{Successor, successorsOn, edgesFrom}
-use Rattle.walk.specs.Turns.{beginOf, isOverOf, edgeNumberOf, nextOf}
-use Rattle.stored.specs.Stored.{Floor, floorOf, polygonAt, cornerCount, polygon, edge}
+use Rattle.walk.specs.Turns.{beginOf, edgeNumberOf}
+use Rattle.stored.specs.Stored.{Floor, Polygon, floorOf, polygonAt, cornerCount, edge}
 use Rattle.faults.specs.Accepted.{Listed}
 use Rattle.steps.specs.declared.Node.{Node}
-use Rattle.going.specs.declared.Going.{Going}
-use Rattle.steps.specs.Steps.{entryOf}
+use Rattle.steps.specs.Steps.{placeOf, entryOf}
 
 -- ---- one edge
 
@@ -28,37 +26,28 @@ wholeOf edge = oneOf (record { interval = edge; kind = Observable }) Observable
 unfoldable pub walkBy : Node → Segment → SuccessorType → Walked
 walkBy node edge kind = cond (node .seed) (wholeOf edge) (walkedOf (walkEdgeOf (node .root) (node .interval) edge kind))
 
+-- at most three parts, in an array of three
+pub record Yielded (walked : Walked) : Type 0 where
+  pub few : walked .count ≤ 3
+  pub three : length (walked .parts) ≡ 3
+
 -- ---- round the polygon
 
 -- the seed's walk leaves no edge out: its entry edge is one more than there are
-unfoldable pub entryFor : Floor → Node → ℕ
-entryFor f node = cond (node .seed) (cornerCount (polygon f (node .polygon))) (entryOf f node)
+unfoldable pub entryFor : Polygon → Node → ℕ
+entryFor q node = cond (node .seed) (cornerCount q) (placeOf q (cornerCount q) (node .second))
 
-unfoldable pub countFor : Floor → Node → ℕ
-countFor f node = cond (node .seed) (cornerCount (polygon f (node .polygon)) + 1) (cornerCount (polygon f (node .polygon)))
+unfoldable pub countFor : Polygon → Node → ℕ
+countFor q node = cond (node .seed) (cornerCount q + 1) (cornerCount q)
 
-unfoldable pub onEdge : Floor → Node → Round → Going
-onEdge f node round = record {
-  round = round;
-  edge = edgeNumberOf round;
-  walked = walkBy node (edge f (node .polygon) (edgeNumberOf round)) (round .kind);
-  part = 0;
-}
+unfoldable pub beginRound : Polygon → Node → Round
+beginRound q node = beginOf (entryFor q node) (countFor q node)
 
-unfoldable pub beginGoing : Floor → Node → Going
-beginGoing f node = onEdge f node (beginOf (entryFor f node) (countFor f node))
+-- what the round's edge yields
+unfoldable pub walkedOn : Floor → Node → Round → Walked
+walkedOn f node round = walkBy node (edge f (node .polygon) (edgeNumberOf round)) (round .kind)
 
-unfoldable pub nextGoing : Floor → Node → Going → Going
-nextGoing f node g =
-    let round = nextOf (g .round) (g .walked .kind) in
-    cond (ltb (g .part + 1) (g .walked .count)) (record { round = g .round; edge = g .edge; walked = g .walked; part = g .part + 1 })
-    (cond (isOverOf round) (record { round = round; edge = g .edge; walked = g .walked; part = g .part })
-    (onEdge f node round))
-
--- ---- what is on, and what is left
-
-unfoldable pub current : Going → Successor
-current g = record { edge = g .edge; part = partAt (g .walked .parts) (g .part) }
+-- ---- what is left
 
 -- the parts of these edges, each with the kind that the last one left
 unfoldable pub partsOver : Floor → Node → SuccessorType → List ℕ → List Successor
@@ -67,11 +56,9 @@ partsOver f node kind (i ∷ is) =
     let walked = walkBy node (edge f (node .polygon) i) kind in
     successorsOn i (partsOf walked) ++ partsOver f node (walked .kind) is
 
-unfoldable pub leftIn : Floor → Node → Going → List Successor
-leftIn f node g =
-    cond (isOverOf (g .round)) []
-    (successorsOn (g .edge) (drop (g .part) (partsOf (g .walked)))
-    ++ partsOver f node (g .walked .kind) (edgesFrom (g .round .count) (g .round .entry) (g .round .taken + 1) (g .round .count - 1 - (g .round .taken + 1))))
+-- the parts of the edges that were not walked yet
+unfoldable pub leftIn : Floor → Node → Round → List Successor
+leftIn f node round = partsOver f node (round .kind) (edgesFrom (round .count) (round .entry) (round .taken) (round .count - 1 - round .taken))
 
 -- ---- below the door
 
@@ -88,11 +75,8 @@ pub record Turning (slots : ℕ) (polygons : List ℕ) (node : Node) (round : Ro
   pub taken-in : round .taken < round .count
   pub edge-in : edgeNumberOf round < cornerCount (polygonAt slots polygons (node .polygon))
 
--- the walk stands where it has come to by itself
-pub record Goes (f : Floor) (node : Node) (g : Going) : Type 0 where
-  pub entry-is : g .round .entry ≡ entryFor f node
-  pub count-is : g .round .count ≡ countFor f node
-  pub taken-in : g .round .taken < g .round .count
-  pub edge-is : isOverOf (g .round) ≡ false → g .edge ≡ edgeNumberOf (g .round)
-  pub walked-is : isOverOf (g .round) ≡ false → g .walked ≡ walkBy node (edge f (node .polygon) (edgeNumberOf (g .round))) (g .round .kind)
-  pub part-in : isOverOf (g .round) ≡ false → g .part < g .walked .count
+-- the round stands where it has come to by itself
+pub record Goes (q : Polygon) (node : Node) (round : Round) : Type 0 where
+  pub entry-is : round .entry ≡ entryFor q node
+  pub count-is : round .count ≡ countFor q node
+  pub taken-in : round .taken < round .count

@@ -1,2 +1,2 @@
--- The walk round a node's polygon, one part at a time.
+-- The walk round a node's polygon, an edge at a time.
 pub mod Going

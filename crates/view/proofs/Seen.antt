@@ -22,7 +22,7 @@ use Rattle.steps.specs.declared.Permitted.{Permitted}
 use Rattle.steps.specs.declared.Permitted.the-variants.{Yes, No}
 use Rattle.steps.specs.Steps.{isAllowed, rootAfter, clipped, isInterval, ifSeen, stepOf}
 use Rattle.view.specs.declared.View.{View}
-use Rattle.view.specs.View.{cornerOn, viewOf, allowsOf, turnedTo, seenBy, neighbourBy, overBy, stepBy}
+use Rattle.view.specs.View.{cornerOn, viewOf, allowsOf, turnedTo, clipsBy, neighbourBy, clipIf, overBy, stepBy}
 
 -- a turn vertex is marked, and no other is
 pub mark-tells : (f : Floor) (marks : List ℕ) (v : ℕ) → marks ≡ marksOf f → v < 1024 → isMarked marks v ≡ isTurn f v
@@ -41,14 +41,14 @@ module _ (f : Floor) (node : Node) where
   turned-is RightNonObservable = refl
   turned-is LeftNonObservable = refl
 
-  seen-is : (kind : SuccessorType) (interval : Segment) → seenBy (viewOf f node) kind interval ≡ clipped f node kind interval
-  unfolding seenBy clipped viewOf
+  seen-is : (kind : SuccessorType) (interval : Segment) → clipIf (clipsBy (viewOf f node) kind) (viewOf f node .cone) interval ≡ clipped f node kind interval
+  unfolding clipIf clipsBy clipped viewOf
   seen-is kind interval =
       rw (turned-is kind)
-      (ap (λ (x : Clipped). cond (node .seed) (Seen interval) (cond (sameOf (rootAfter f node kind) (node .root)) x (Seen interval))) (kept-cone-clips-the-same (node .root) (node .interval) interval)
+      (ap (λ (x : Clipped). cond (cond (node .seed) false (sameOf (rootAfter f node kind) (node .root))) x (Seen interval)) (kept-cone-clips-the-same (node .root) (node .interval) interval)
       ∙ go (clipToConeOf (node .root) (node .interval) interval) (Seen interval) (node .seed) (sameOf (rootAfter f node kind) (node .root)))
     where
-      go : (x y : Clipped) (seed same : Bool) → cond seed y (cond same x y) ≡ cond (not seed && same) x y
+      go : (x y : Clipped) (seed same : Bool) → cond (cond seed false same) x y ≡ cond (not seed && same) x y
       go x y true same = refl
       go x y false same = refl
 
@@ -75,6 +75,6 @@ module _ (q : Polygon) (view : View) (i : ℕ) (part : Part) {n : ℕ} (e : n �
   unfolding stepBy
   no-neighbour-no-step u = rw (← e, eq-eqb n unused u) refl
 
-  pub step-to-neighbour : (n ≡ unused → ⊥) → {p : Permitted} → p ≡ overBy q view i n part → p ≡ stepBy q view i part
+  pub step-to-neighbour : (n ≡ unused → ⊥) → {p : Permitted} → p ≡ overBy q i n part (clipsBy view (part .kind)) (view .cone) → p ≡ stepBy q view i part
   unfolding stepBy
   step-to-neighbour u x = rw (← e, ne-eqb n unused u) x

@@ -1,13 +1,14 @@
 -- What a node allows and sees, as the code keeps it: each corner of the entry edge looked at once, and the cone made once. `step-by-view` (proofs/Seen) says
 -- that the steps are document 01's. Assumes nothing.
 use Prim.Native.Nat.{ℕ}
-use mathlib.Core.Bool.{Bool, true, not, _&&_, cond}
+use mathlib.Core.Bool.{Bool, true, false, not, _&&_, cond}
 use lib.Dec.{eqb}
 use Rattle.point.specs.declared.Point.{Point}
 use Rattle.point.specs.declared.Segment.{Segment}
 use Rattle.point.specs.Point.{sameOf}
 use Rattle.cone.specs.declared.Clipped.{Clipped}
 use Rattle.cone.specs.declared.Clipped.the-variants.{Seen}
+use Rattle.cone.specs.declared.Cone.{Cone}
 use Rattle.cone.specs.Cone.{coneOf, clipOf}
 use Rattle.cone.specs.Landing.{landsOnOf}
 use Rattle.cut.specs.declared.SuccessorType.{SuccessorType}
@@ -44,20 +45,21 @@ turnedTo view Observable = view .node .root
 turnedTo view RightNonObservable = view .right .at
 turnedTo view LeftNonObservable = view .left .at
 
-unfoldable pub seenBy : View → SuccessorType → Segment → Clipped
-seenBy view kind interval =
-    cond (view .node .seed) (Seen interval)
-    (cond (sameOf (turnedTo view kind) (view .node .root)) (clipOf (view .cone) interval)
-    (Seen interval))
+-- whether a part of this kind is seen through the interval: where the root is kept, and not from the seed
+unfoldable pub clipsBy : View → SuccessorType → Bool
+clipsBy view kind = cond (view .node .seed) false (sameOf (turnedTo view kind) (view .node .root))
 
 -- the neighbour that a part of this kind of edge i may be stepped over to: at a wall, and where the kind is not allowed, there is none
 unfoldable pub neighbourBy : Polygon → View → ℕ → SuccessorType → ℕ
 neighbourBy q view i kind = cond (allowsOf view kind) (neighbour q i) unused
 
--- the step over a part of edge i of the polygon that may be stepped over, to the neighbour n, or none
-unfoldable pub overBy : Polygon → View → ℕ → ℕ → Part → Permitted
-overBy q view i n part =
-    ifSeen (seenBy view (part .kind) (part .interval))
+unfoldable pub clipIf : Bool → Cone → Segment → Clipped
+clipIf clips cone interval = cond clips (clipOf cone interval) (Seen interval)
+
+-- the step over a part of edge i of the polygon, to the neighbour n, or none
+unfoldable pub overBy : Polygon → ℕ → ℕ → Part → Bool → Cone → Permitted
+overBy q i n part clips cone =
+    ifSeen (clipIf clips cone (part .interval))
     (λ interval.
     cond (not (isInterval interval)) No
     (Yes (record { kind = part .kind; polygon = n; first = corner q i; second = cornerAfter q i; interval = interval })))
@@ -66,4 +68,4 @@ overBy q view i n part =
 unfoldable pub stepBy : Polygon → View → ℕ → Part → Permitted
 stepBy q view i part =
     let n = neighbourBy q view i (part .kind) in
-    cond (eqb n unused) No (overBy q view i n part)
+    cond (eqb n unused) No (overBy q i n part (clipsBy view (part .kind)) (view .cone))

@@ -6,7 +6,7 @@ ghost use lib.ListN.{length};
 ghost use Rattle.stored.specs.Stored.{floorOf, polygonAt};
 ghost use Rattle.edges.specs.Where.{marksOf};
 ghost use Rattle.steps.specs.Steps.{isFinite, isInterval};
-ghost use Rattle.view.specs.View.{cornerOn, viewOf, allowsOf, turnedTo, seenBy, neighbourBy, overBy, stepBy};
+ghost use Rattle.view.specs.View.{cornerOn, viewOf, allowsOf, turnedTo, clipsBy, neighbourBy, clipIf, overBy, stepBy};
 use cone::Clipped;
 use cone::Cone;
 use cut::SuccessorType;
@@ -136,19 +136,16 @@ impl View {
         }
     }
 
-    // What the node sees of a part. It sees through its interval only what keeps its root, and the seed has no interval.
-    fn seen(self, kind: SuccessorType, interval: Segment) -> Clipped
-        ensures { λ r. ⌜ r ≡ seenBy self kind interval ⌝ }
+    // Whether the node sees a part of this kind through its interval. It does where it keeps its root; the seed has no interval.
+    pub fn clips(self, kind: SuccessorType) -> bool
+        ensures { λ r. ⌜ r ≡ clipsBy self kind ⌝ }
     {
         let node = self.node;
         if node.seed {
-            return Clipped::Seen(interval);
+            return false;
         }
         let root = self.turned_to(kind);
-        if root.same(node.root) {
-            return self.cone.clip(interval);
-        }
-        Clipped::Seen(interval)
+        root.same(node.root)
     }
 
     // The neighbour that a part of this kind of an edge may be stepped over to. At a wall, and where the kind is not allowed,
@@ -164,41 +161,6 @@ impl View {
         UNUSED
     }
 
-    // The step over a part that may be stepped over, to this neighbour, or none.
-    pub fn over(
-        self,
-        polygons: &[u8],
-        slots: usize,
-        edge: usize,
-        neighbour: u32,
-        part: Part,
-    ) -> Permitted
-        requires { ⌜ (slots ≤ 16) × (edge < slots) × (self .node .polygon < length (now polygons) / (slots * 8)) ⌝ }
-        ensures { λ r. ⌜ r ≡ overBy (polygonAt slots (now (polygons .entry)) (self .node .polygon)) self edge neighbour part ⌝ }
-    {
-        let node = self.node;
-        let p = node.polygon as usize;
-        let kind = part.kind;
-        let clipped = self.seen(kind, part.interval);
-        match clipped {
-            Clipped::Seen(interval) => {
-                if !is_interval(interval) {
-                    return Permitted::No;
-                }
-                let first = stored::corner(polygons, slots, p, edge);
-                let second = stored::corner_after(polygons, slots, p, edge);
-                Permitted::Yes(Step {
-                    kind,
-                    polygon: neighbour,
-                    first,
-                    second,
-                    interval,
-                })
-            }
-            Clipped::Nothing => Permitted::No,
-        }
-    }
-
     // The step over a part of an edge of the node's polygon, or none.
     pub fn step(self, polygons: &[u8], slots: usize, edge: usize, part: Part) -> Permitted
         requires { ⌜ (slots ≤ 16) × (edge < slots) × (self .node .polygon < length (now polygons) / (slots * 8)) ⌝ }
@@ -209,7 +171,66 @@ impl View {
         if neighbour == UNUSED {
             return Permitted::No;
         }
-        self.over(polygons, slots, edge, neighbour, part)
+        let node = self.node;
+        let clips = self.clips(kind);
+        let cone = self.cone;
+        over(
+            polygons,
+            slots,
+            node.polygon,
+            edge,
+            neighbour,
+            part,
+            clips,
+            cone,
+        )
+    }
+}
+
+// What is seen of an interval, through the cone or not.
+fn clip_if(clips: bool, cone: Cone, interval: Segment) -> Clipped
+    ensures { λ r. ⌜ r ≡ clipIf clips cone interval ⌝ }
+{
+    if clips {
+        return cone.clip(interval);
+    }
+    Clipped::Seen(interval)
+}
+
+// The step from a polygon to this neighbour over a part of their edge, or none. It takes the cone and no whole view, since
+// what a call takes is copied.
+pub fn over(
+    polygons: &[u8],
+    slots: usize,
+    polygon: u32,
+    edge: usize,
+    neighbour: u32,
+    part: Part,
+    clips: bool,
+    cone: Cone,
+) -> Permitted
+    requires { ⌜ (slots ≤ 16) × (edge < slots) × (polygon < length (now polygons) / (slots * 8)) ⌝ }
+    ensures { λ r. ⌜ r ≡ overBy (polygonAt slots (now (polygons .entry)) polygon) edge neighbour part clips cone ⌝ }
+{
+    let kind = part.kind;
+    let clipped = clip_if(clips, cone, part.interval);
+    match clipped {
+        Clipped::Seen(interval) => {
+            if !is_interval(interval) {
+                return Permitted::No;
+            }
+            let p = polygon as usize;
+            let first = stored::corner(polygons, slots, p, edge);
+            let second = stored::corner_after(polygons, slots, p, edge);
+            Permitted::Yes(Step {
+                kind,
+                polygon: neighbour,
+                first,
+                second,
+                interval,
+            })
+        }
+        Clipped::Nothing => Permitted::No,
     }
 }
 

@@ -14,17 +14,21 @@ returns c =
     let c1 = c .before in
     rw (← c1 .neighbour .ensures, eq-eqb _ _ (c .if1 .taken))
 
+clips-requires : tie.Need-clips-requires
+clips-requires c κs = search needs
+
 over-requires : tie.Need-over-requires
 over-requires c κs = search needs
 
 returns-2 : tie.Need-returns-2
 unfolding stepBy
 returns-2 c =
-    let c1 = c .before in
-    let c2 = c1 .before in
-    rw (← c2 .neighbour .ensures, ne-eqb _ _ (c1 .if1 .left), ← c .over .ensures)
+    let c2 = c .before .before in
+    let c4 = c2 .before .before in
+    let c5 = c4 .before in
+    rw (← c5 .neighbour .ensures, ne-eqb _ _ (c4 .if1 .left), ← c2 .clips .ensures, ← c .over .ensures)
 
 pub step-spec : {M : Type 1} → statement M
 step-spec =
     tie.close
-    (tie.spec neighbour-requires returns over-requires returns-2)
+    (tie.spec neighbour-requires returns clips-requires over-requires returns-2)

@@ -2,14 +2,11 @@ use borrow.Author.Needs.{needs}
 use borrow.Author.Tests.{not-false}
 use borrow.Author.Tests.{not-true}
 use Rattle.view.specs.View.{overBy}
-use Rattle.view.proofs.View.over.Statement.{statement}
-use Rattle.view.proofs.View.over.Tie as tie
+use Rattle.view.proofs.over.Statement.{statement}
+use Rattle.view.proofs.over.Tie as tie
 
-cast-p : tie.Need-cast-p
-cast-p c = search needs
-
-seen-requires : tie.Need-seen-requires
-seen-requires c κs = search needs
+clip-if-requires : tie.Need-clip-if-requires
+clip-if-requires c κs = search needs
 
 enum-known-clipped : tie.Need-enum-known-clipped
 enum-known-clipped c = search needs
@@ -23,7 +20,7 @@ returns c =
     let c1 = c .before in
     let c3 = c1 .before .before in
     let c5 = c3 .before .before in
-    rw (← c5 .seen .ensures, c3 .clipped .given .1, ← c1 .is-interval .ensures, not-true (c .before .is-interval .result) (c .if1 .taken))
+    rw (← c5 .clip-if .ensures, c3 .clipped .given .1, ← c1 .is-interval .ensures, not-true (c .before .is-interval .result) (c .if1 .taken))
 
 corner-requires : tie.Need-corner-requires
 corner-requires c κs = search needs
@@ -42,15 +39,15 @@ returns-2 c =
     let c3 = c2 .before in
     let c5 = c3 .before .before in
     let c7 = c5 .before .before in
-    rw (← c7 .seen .ensures, c5 .clipped .given .1, ← c3 .is-interval .ensures, not-false (c2 .before .is-interval .result) (c2 .if1 .left), ← c1 .corner .ensures, ← c .corner-after .ensures)
+    rw (← c7 .clip-if .ensures, c5 .clipped .given .1, ← c3 .is-interval .ensures, not-false (c2 .before .is-interval .result) (c2 .if1 .left), ← c1 .corner .ensures, ← c .corner-after .ensures)
 
 returns-3 : tie.Need-returns-3
 unfolding overBy
 returns-3 c =
     let c2 = c .before .before in
-    rw (← c2 .seen .ensures, c .enum-told .given .1)
+    rw (← c2 .clip-if .ensures, c .enum-told .given .1)
 
 pub over-spec : {M : Type 1} → statement M
 over-spec =
     tie.close
-    (tie.spec cast-p seen-requires enum-known-clipped is-interval-requires returns corner-requires corner-after-requires enum-told returns-2 returns-3)
+    (tie.spec clip-if-requires enum-known-clipped is-interval-requires returns corner-requires corner-after-requires enum-told returns-2 returns-3)

@@ -1,7 +1,7 @@
 use borrow.Author.Needs.{needs}
-use Rattle.going.specs.Going.{onEdge}
-use Rattle.going.proofs.on_edge.Statement.{statement}
-use Rattle.going.proofs.on_edge.Tie as tie
+use Rattle.going.specs.Going.{walkedOn}
+use Rattle.going.proofs.walk_on.Statement.{statement}
+use Rattle.going.proofs.walk_on.Tie as tie
 
 edge-requires : tie.Need-edge-requires
 edge-requires c κs = search needs
@@ -16,13 +16,13 @@ walk-by-requires : tie.Need-walk-by-requires
 walk-by-requires c κs = search needs
 
 returns : tie.Need-returns
-unfolding onEdge
+unfolding walkedOn
 returns c =
     let c1 = c .before in
     let c3 = c1 .before .before in
     rw (← c3 .edge .ensures, ← c1 .edge2 .ensures, ← c .walk-by .ensures)
 
-pub on-edge-spec : {M : Type 1} → statement M
-on-edge-spec =
+pub walk-on-spec : {M : Type 1} → statement M
+walk-on-spec =
     tie.close
     (tie.spec edge-requires cast-edge edge-requires-2 walk-by-requires returns)
