@@ -1,73 +1,90 @@
--- The part of an edge that is on: where it may be read, and which step leads over it. Assumes nothing.
-use Prim.Native.Nat.{ℕ, _<_}
-use mathlib.Core.Path.{_≡_, sym, ap, _∙_}
-use mathlib.Core.Bool.{true, false, cond}
-use mathlib.Core.List.{List}
-use lib.Dec.{eqb}
+-- The step over a part of an edge, and steps made one after the other: those of a list's front, then those of its rest. Assumes nothing.
+use Prim.Native.Nat.{ℕ}
+use mathlib.Core.Path.{_≡_, refl, sym, ap, _∙_}
+use mathlib.Core.Bool.{Bool, true, false, cond}
+use mathlib.Core.List.{List, [], _∷_, _++_}
 use Rattle.walk.specs.declared.Part.{Part}
-use Rattle.walk.specs.Walk.{partAt}
-use Rattle.walk.specs.Turns.{isOverOf, edgeNumberOf}
-use Rattle.stored.specs.Stored.{Floor, floorOf, polygonAt, polygon}
-use Rattle.stored.proofs.Records.{polygon-is}
-use Rattle.edges.proofs.Inside.{slot-inside}
+use Rattle.stored.specs.Stored.{Floor, floorOf, polygonAt, unused}
 use Rattle.route.specs.declared.Step.{Step}
-use Rattle.steps.specs.declared.Node.{Node}
-use Rattle.view.specs.declared.View.{View}
 use Rattle.steps.specs.declared.Permitted.{Permitted}
 use Rattle.steps.specs.declared.Permitted.the-variants.{Yes, No}
-use Rattle.going.specs.declared.Going.{Going}
-use Rattle.steps.specs.Steps.{stepOf, stepsOver, stepsFrom}
-use Rattle.view.specs.View.{viewOf, stepBy}
-use Rattle.going.specs.Going.{current, leftIn, beginGoing, nextGoing, Stands, Goes}
-use Rattle.going.proofs.Rounds.{turning}
-use Rattle.going.proofs.Left.{part-below-three, left-next, left-begin, left-over}
-use Rattle.view.proofs.Seen.{step-by-view}
+use Rattle.steps.specs.declared.Node.{Node}
+use Rattle.steps.specs.Steps.{stepOf, andThen}
+use Rattle.view.specs.declared.View.{View}
+use Rattle.view.specs.View.{viewOf, clipsBy, neighbourBy, overBy}
+use Rattle.view.proofs.Seen.{no-neighbour-no-step, step-to-neighbour}
+use Rattle.going.specs.Going.{Stands}
+use Rattle.going.proofs.Stepping.{step-on}
 use Rattle.machine.specs.declared.Task.{Task}
 use Rattle.machine.specs.declared.Origin.{Origin}
 use Rattle.machine.specs.Search.{State, Making, making, made, madeIf, madeAll}
-use Rattle.machine.proofs.Fitting.{made-first}
 
-module _ (s : ℕ) (vs ps : List ℕ) (node : Node) (h : Stands s vs ps node) where
-  abbrev f : Floor
-  f = floorOf s vs ps
+-- the step, asked for in two: the neighbour, then the step over to it
+module _ (s : ℕ) (vs ps : List ℕ) (node : Node) (h : Stands s vs ps node) (view : View) (v : view ≡ viewOf (floorOf s vs ps) node) (edge : ℕ) (part : Part)
+    (n : ℕ) (e : n ≡ neighbourBy (polygonAt s ps (view .node .polygon)) view edge (part .kind)) where
+  pub no-step : n ≡ unused → No ≡ stepOf (floorOf s vs ps) node (record { edge = edge; part = part })
+  no-step wall = step-on s vs ps node h view edge part No v (no-neighbour-no-step (polygonAt s ps (view .node .polygon)) view edge part e wall)
 
-  module _ (g : Going) (goes : Goes f node g) (on : isOverOf (g .round) ≡ false) where
-    pub part-in : g .part < 3
-    part-in = part-below-three s vs ps node h g goes on
+  pub step-over : (n ≡ unused → ⊥) → (clips : Bool) → clips ≡ clipsBy view (part .kind) → (p : Permitted) → p ≡ overBy (polygonAt s ps (view .node .polygon)) edge n part clips (view .cone)
+      → p ≡ stepOf (floorOf s vs ps) node (record { edge = edge; part = part })
+  step-over other clips c p x =
+      step-on s vs ps node h view edge part p v
+      (step-to-neighbour (polygonAt s ps (view .node .polygon)) view edge part e other
+      (x ∙ ap (λ (b : Bool). overBy (polygonAt s ps (view .node .polygon)) edge n part b (view .cone)) c))
 
-    pub edge-in : g .edge < s
-    edge-in = rw (goes .edge-is on) (slot-inside s vs ps (node .polygon) (h .listed) (edgeNumberOf (g .round)) (turning s vs ps node h (g .round) (goes .entry-is) (goes .count-is) on .edge-in))
+-- what is made if a place was left, else what was made before
+abbrev pub unlessFull : Making → Making → Making
+unlessFull m more = cond (m .full) m more
 
-    pub step-is : {view : View} → view ≡ viewOf f node → {part : Part} → part ≡ partAt (g .walked .parts) (g .part) → {p : Permitted} → p ≡ stepBy (polygonAt s ps (view .node .polygon)) view (g .edge) part
-        → p ≡ stepOf f node (current g)
-    unfolding current viewOf
-    step-is v e x = x ∙ rw (v, e, ← polygon-is s vs ps (node .polygon) (h .listed .listed)) (step-by-view f node (g .edge) (partAt (g .walked .parts) (g .part)))
+module _ (f : Floor) (t : Task) (o : Origin) where
+  -- ---- a step that may not be permitted
 
-  -- ---- what is left to be made
+  pub made-by-step : (s : State) {step : Step} {m : Making} → m ≡ made f t s o step → {p q : Permitted} → p ≡ Yes step → p ≡ q → m ≡ madeIf f t s o q
+  made-by-step s e {p} {q} y x = e ∙ ap (madeIf f t s o) (sym y ∙ x)
 
-  module _ (t : Task) (o : Origin) where
-    -- the part that is on, then what is left of the walk's next place
-    pub made-next : (g : Going) → Goes f node g → isOverOf (g .round) ≡ false → (was : State) {m : Making} → m ≡ madeIf f t was o (stepOf f node (current g))
-        → madeAll f t was o (stepsOver f node (leftIn f node g)) ≡ cond (m .full) m (madeAll f t (m .state) o (stepsOver f node (leftIn f node (nextGoing f node g))))
-    unfolding stepsOver
-    made-next g goes on was e = rw (left-next s vs ps node h g goes on, e) (made-first t f was o (stepOf f node (current g)) (stepsOver f node (leftIn f node (nextGoing f node g))))
+  pub made-by-none : (s : State) {p q : Permitted} → p ≡ No → p ≡ q → making s false ≡ madeIf f t s o q
+  made-by-none s {p} {q} n x = ap (madeIf f t s o) (sym n ∙ x)
 
-    pub made-over : (g : Going) → isOverOf (g .round) ≡ true → (was : State) → madeAll f t was o (stepsOver f node (leftIn f node g)) ≡ making was false
-    unfolding stepsOver madeAll
-    made-over g over was = rw (left-over s vs ps node h g over)
+  alone : (m : Making) → m ≡ unlessFull m (making (m .state) false)
+  alone m = go (m .full)
+    where
+      go : (b : Bool) → making (m .state) b ≡ cond b (making (m .state) b) (making (m .state) false)
+      go true = refl
+      go false = refl
 
-    pub made-begin : (goal : ℕ) → eqb (node .polygon) goal ≡ false → (was : State) {g : Going} → g ≡ beginGoing f node
-        → madeAll f t was o (stepsFrom f goal node) ≡ madeAll f t was o (stepsOver f node (leftIn f node g))
-    unfolding stepsFrom
-    made-begin goal e was b = rw (e, b, left-begin s vs ps node h)
+  -- it is a list of one, or of none
+  pub made-alone : (s : State) (p : Permitted) → madeIf f t s o p ≡ madeAll f t s o (andThen p [])
+  unfolding madeAll
+  made-alone s (Yes step) = alone (made f t s o step)
+  made-alone s No = refl
 
--- a step that is permitted
-pub made-by-step : (f : Floor) (t : Task) (s : State) (o : Origin) {step : Step} {m : Making} → m ≡ made f t s o step → {p q : Permitted} → p ≡ Yes step → p ≡ q → m ≡ madeIf f t s o q
-made-by-step f t s o e {p} {q} y x = e ∙ ap (madeIf f t s o) (sym y ∙ x)
+  -- ---- several
 
-pub made-by-none : (f : Floor) (t : Task) (s : State) (o : Origin) {p q : Permitted} → p ≡ No → p ≡ q → making s false ≡ madeIf f t s o q
-made-by-none f t s o {p} {q} n x = ap (madeIf f t s o) (sym n ∙ x)
+  pub made-both : (s : State) (xs ys : List Step) → madeAll f t s o (xs ++ ys) ≡ unlessFull (madeAll f t s o xs) (madeAll f t (madeAll f t s o xs .state) o ys)
+  unfolding madeAll
+  made-both s [] ys = refl
+  made-both s (x ∷ xs) ys = go (m .full) refl (made-both (m .state) xs ys)
+    where
+      m : Making
+      m = made f t s o x
 
-pub viewed : (f : Floor) (node : Node) {n : ℕ} → node .polygon < n → viewOf f node .node .polygon < n
-unfolding viewOf
-viewed f node l = l
+      more : Making
+      more = madeAll f t (m .state) o xs
+
+      go : (b : Bool) → m .full ≡ b → madeAll f t (m .state) o (xs ++ ys) ≡ unlessFull more (madeAll f t (more .state) o ys)
+          → cond b m (madeAll f t (m .state) o (xs ++ ys)) ≡ unlessFull (cond b m more) (madeAll f t ((cond b m more) .state) o ys)
+      go true b e = ap (λ (full : Bool). cond full m (madeAll f t (m .state) o ys)) (sym b)
+      go false b e = e
+
+  -- what each step keeps, all of them keep
+  pub each-keeps : (P : State → Type 0) → ((s : State) (step : Step) → P s → P (made f t s o step .state)) → (steps : List Step) (s : State) → P s → P (madeAll f t s o steps .state)
+  unfolding madeAll
+  each-keeps P keeps [] s h = h
+  each-keeps P keeps (step ∷ steps) s h = go (made f t s o step .full) (keeps s step h) (each-keeps P keeps steps (made f t s o step .state) (keeps s step h))
+    where
+      m : Making
+      m = made f t s o step
+
+      go : (b : Bool) → P (m .state) → P (madeAll f t (m .state) o steps .state) → P ((cond b m (madeAll f t (m .state) o steps)) .state)
+      go true one all = one
+      go false one all = all

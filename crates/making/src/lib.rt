@@ -9,15 +9,15 @@ ghost use Prim.Native.Nat.{ℕ, _+_, _*_, _≤_, _<_};
 ghost use lib.Dec.{eqb};
 ghost use lib.ListN.{length};
 ghost use lib.Ieee.{isNan};
-ghost use Rattle.walk.specs.Turns.{isOverOf};
+ghost use Rattle.walk.specs.Walk.{partsOf};
+ghost use Rattle.walk.specs.Round.{successorsOn};
 ghost use Rattle.stored.specs.Stored.{floorOf};
-ghost use Rattle.steps.specs.Steps.{stepOf, stepsFrom};
+ghost use Rattle.steps.specs.Steps.{stepOf, stepsOver, stepsFrom};
 ghost use Rattle.view.specs.View.{viewOf};
-ghost use Rattle.going.specs.Going.{current, Goes};
+ghost use Rattle.going.specs.Going.{Yielded};
 ghost use Rattle.places.specs.Layout.{workOf, recordFor};
 ghost use Rattle.machine.specs.Search.{stateOf, making, kept, taken, made, madeIf, madeAll};
 ghost use Rattle.machine.specs.Sound.{Ground, Fit, OnRecord, Leaves};
-use going::Going;
 use machine::Counts;
 use machine::Made;
 use machine::Origin;
@@ -35,6 +35,8 @@ use steps::Node;
 use steps::Permitted;
 use stored::UNUSED;
 use view::View;
+use walk::Part;
+use walk::Walked;
 
 fn is_nan(x: f32) -> bool
     ensures { λ r. ⌜ r ≡ isNan x ⌝ }
@@ -170,7 +172,7 @@ fn make(
     }
 }
 
-// Makes the node behind the part of an edge that is on, if a step leads over it.
+// Makes the node behind a part of an edge, if a step leads over it.
 fn make_part(
     vertices: &[u8],
     polygons: &[u8],
@@ -178,27 +180,30 @@ fn make_part(
     counts: Counts,
     from: Origin,
     view: View,
-    going: Going,
+    edge: usize,
+    part: Part,
     floats: &mut [f32],
     words: &mut [u32],
     tree: &mut [u32],
 ) -> Made
     requires { ⌜ Fit task (stateOf (workOf (now floats) (now words) (now tree)) counts) ⌝ }
     requires { ⌜ Leaves (now vertices) (now polygons) task (stateOf (workOf (now floats) (now words) (now tree)) counts) from ⌝ }
-    requires { ⌜ (view ≡ viewOf (floorOf (task .slots) (now vertices) (now polygons)) (from .node)) × Goes (floorOf (task .slots) (now vertices) (now polygons)) (from .node) going × (isOverOf (going .round) ≡ false) ⌝ }
-    ensures { λ r. ⌜ making (stateOf (workOf (now (floats .exit)) (now (words .exit)) (now (tree .exit))) (r .counts)) (r .full) ≡ madeIf (floorOf (task .slots) (now (vertices .entry)) (now (polygons .entry))) task (stateOf (workOf (now (floats .entry)) (now (words .entry)) (now (tree .entry))) counts) from (stepOf (floorOf (task .slots) (now (vertices .entry)) (now (polygons .entry))) (from .node) (current going)) ⌝ }
+    requires { ⌜ (view ≡ viewOf (floorOf (task .slots) (now vertices) (now polygons)) (from .node)) × (edge < task .slots) ⌝ }
+    ensures { λ r. ⌜ making (stateOf (workOf (now (floats .exit)) (now (words .exit)) (now (tree .exit))) (r .counts)) (r .full) ≡ madeIf (floorOf (task .slots) (now (vertices .entry)) (now (polygons .entry))) task (stateOf (workOf (now (floats .entry)) (now (words .entry)) (now (tree .entry))) counts) from (stepOf (floorOf (task .slots) (now (vertices .entry)) (now (polygons .entry))) (from .node) (record { edge = edge; part = part })) ⌝ }
 {
-    let edge = going.edge;
-    let part = going.part();
     let kind = part.kind;
-    let neighbour = view.neighbour(polygons, task.slots, edge, kind);
+    let slots = task.slots;
+    let neighbour = view.neighbour(polygons, slots, edge, kind);
     if neighbour == UNUSED {
         return Made {
             counts,
             full: false,
         };
     }
-    match view.over(polygons, task.slots, edge, neighbour, part) {
+    let polygon = view.node.polygon;
+    let clips = view.clips(kind);
+    let cone = view.cone;
+    match view::over(polygons, slots, polygon, edge, neighbour, part, clips, cone) {
         Permitted::Yes(step) => make(
             vertices,
             polygons,
@@ -214,6 +219,54 @@ fn make_part(
             counts,
             full: false,
         },
+    }
+}
+
+// Makes the nodes behind the parts of an edge, until one finds no place.
+fn make_edge(
+    vertices: &[u8],
+    polygons: &[u8],
+    task: Task,
+    counts: Counts,
+    from: Origin,
+    view: View,
+    edge: usize,
+    walked: Walked,
+    floats: &mut [f32],
+    words: &mut [u32],
+    tree: &mut [u32],
+) -> Made
+    requires { ⌜ Fit task (stateOf (workOf (now floats) (now words) (now tree)) counts) ⌝ }
+    requires { ⌜ Leaves (now vertices) (now polygons) task (stateOf (workOf (now floats) (now words) (now tree)) counts) from ⌝ }
+    requires { ⌜ (view ≡ viewOf (floorOf (task .slots) (now vertices) (now polygons)) (from .node)) × (edge < task .slots) × Yielded walked ⌝ }
+    ensures { λ r. ⌜ making (stateOf (workOf (now (floats .exit)) (now (words .exit)) (now (tree .exit))) (r .counts)) (r .full) ≡ madeAll (floorOf (task .slots) (now (vertices .entry)) (now (polygons .entry))) task (stateOf (workOf (now (floats .entry)) (now (words .entry)) (now (tree .entry))) counts) from (stepsOver (floorOf (task .slots) (now (vertices .entry)) (now (polygons .entry))) (from .node) (successorsOn edge (partsOf walked))) ⌝ }
+{
+    let mut counts = counts;
+    let mut k = 0;
+    while k < walked.count {
+        let part = walked.parts[k];
+        let made = make_part(
+            vertices,
+            polygons,
+            task,
+            counts,
+            from,
+            view,
+            edge,
+            part,
+            floats,
+            words,
+            tree,
+        );
+        if made.full {
+            return made;
+        }
+        counts = made.counts;
+        k += 1;
+    }
+    Made {
+        counts,
+        full: false,
     }
 }
 
@@ -237,17 +290,20 @@ pub fn make_steps(
     let node = from.node;
     let slots = task.slots;
     let view = View::new(vertices, polygons, slots, marks, node);
-    let mut going = going::begin(vertices, polygons, slots, node);
+    let mut round = going::begin(polygons, slots, node);
     let mut counts = counts;
-    while !going.is_over() {
-        let made = make_part(
+    while !round.is_over() {
+        let walked = going::walk_on(vertices, polygons, slots, node, round);
+        let edge = round.edge();
+        let made = make_edge(
             vertices,
             polygons,
             task,
             counts,
             from,
             view,
-            going,
+            edge,
+            walked,
             floats,
             words,
             tree,
@@ -256,7 +312,8 @@ pub fn make_steps(
             return made;
         }
         counts = made.counts;
-        going = going.next(vertices, polygons, slots, node);
+        let kind = walked.kind;
+        round = round.next(kind);
     }
     Made {
         counts,

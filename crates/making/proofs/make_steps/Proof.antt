@@ -1,20 +1,26 @@
 -- `making::make_steps` meets its contract. Assumes nothing.
 use denote.Ref.{now}
-use mathlib.Core.Path.{sym, _∙_}
+use mathlib.Core.Path.{sym, _∙_, subst}
+use Prim.Native.Nat.{ℕ, _<_}
 use borrow.Author.Tests.{not-true, not-false}
+use Rattle.stored.specs.Stored.{floorOf}
+use Rattle.walk.specs.declared.Walked.{Walked}
+use Rattle.going.specs.Going.{Yielded}
+use Rattle.going.proofs.Rounds.{turning, on-yields, edgesLeft}
+use Rattle.going.proofs.Stepping.{edge-inside}
 use Rattle.places.specs.Layout.{workOf}
 use Rattle.machine.specs.Search.{stateOf}
-use Rattle.making.proofs.Looping.{Loops, leaves-on, leftLength, loops-begin, loops-over, loops-full, loops-next, loops-less}
+use Rattle.making.proofs.Looping.{Loops, leaves-on, loops-begin, loops-over, loops-full, loops-next, loops-less}
 use Rattle.making.proofs.make_steps.Statement.{statement}
 use Rattle.making.proofs.make_steps.Tie as tie
 
 abbrev Inv-loop : tie.InvT-loop
-Inv-loop vertices polygons marks task from floats₀ words₀ tree₀ node slots view going₀ counts₀ floats words tree going counts =
-    Loops vertices polygons task from (stateOf (workOf floats₀ words₀ tree₀) counts₀) (stateOf (workOf floats words tree) counts) going
+Inv-loop vertices polygons marks task from floats₀ words₀ tree₀ node slots view round₀ counts₀ floats words tree round counts =
+    Loops vertices polygons task from (stateOf (workOf floats₀ words₀ tree₀) counts₀) (stateOf (workOf floats words tree) counts) round
 
 abbrev μ-loop : tie.MeasureT-loop
-μ-loop vertices polygons marks task from floats₀ words₀ tree₀ node slots view going₀ counts₀ floats words tree going counts =
-    leftLength vertices polygons task from going
+μ-loop vertices polygons marks task from floats₀ words₀ tree₀ node slots view round₀ counts₀ floats words tree round counts =
+    edgesLeft round
 
 new-requires : tie.Need-new-requires Inv-loop μ-loop
 new-requires c κs =
@@ -24,71 +30,89 @@ new-requires c κs =
 begin-requires : tie.Need-begin-requires Inv-loop μ-loop
 begin-requires c κs =
     let s = c .before .before .before .before .before .before .before in
-    s .pre .1 .0 .stands
+    (s .pre .1 .0 .stands .listed .few, s .pre .1 .0 .stands .listed .listed)
 
 loop-holds : tie.Need-loop-holds Inv-loop μ-loop
 loop-holds c =
     let s = c .before .before .before .before .before .before .before .before in
-    loops-begin (now (s .args .vertices)) (now (s .args .polygons)) (s .args .task) (s .args .from) (s .pre .1 .0 .stands) (stateOf (workOf (now (s .args .floats)) (now (s .args .words)) (now (s .args .tree))) (s .args .counts)) (s .pre .0) (s .pre .1 .0 .on-record) (s .pre .1 .1 .1) (c .begin .ensures)
+    let was = stateOf (workOf (now (s .args .floats)) (now (s .args .words)) (now (s .args .tree))) (s .args .counts) in
+    loops-begin (now (s .args .vertices)) (now (s .args .polygons)) (s .args .task) (s .args .from) (s .pre .1 .0 .stands) was (s .pre .0) (s .pre .1 .0 .on-record) (s .pre .1 .1 .1) (c .begin .ensures)
 
 is-over-requires : tie.Need-is-over-requires Inv-loop μ-loop
 is-over-requires c κs = c .loop .inv .goes .taken-in
 
-make-part-requires : tie.Need-make-part-requires Inv-loop μ-loop
-make-part-requires c κs =
-    let s = c .before .before .before .before .before .before .before .before .before .before .before .before .before .before in
-    (c .before .before .before .before .before .loop .inv .fit, (leaves-on (s .pre .1 .0) (c .before .before .before .before .before .loop .inv .numbered), (c .before .before .before .before .before .before .before .new .ensures, c .before .before .before .before .before .loop .inv .goes, sym (c .before .before .before .before .is-over .ensures) ∙ not-true (c .before .before .before .before .is-over .result) (c .before .before .before .if1 .taken))))
+walk-on-requires : tie.Need-walk-on-requires Inv-loop μ-loop
+walk-on-requires c κs =
+    let s = c .before .before .before .before .before .before .before .before .before .before .before in
+    let l = c .before .before .loop in
+    (s .pre .1 .0 .stands, turning (s .args .task .slots) (now (s .args .vertices)) (now (s .args .polygons)) (s .args .from .node) (s .pre .1 .0 .stands) (l .round) (l .inv .goes) (sym (c .before .is-over .ensures) ∙ not-true (c .before .is-over .result) (c .if1 .taken)))
+
+edge-requires : tie.Need-edge-requires Inv-loop μ-loop
+edge-requires c κs =
+    let s = c .before .before .before .before .before .before .before .before .before .before .before .before in
+    let l = c .before .before .before .loop in
+    let t = turning (s .args .task .slots) (now (s .args .vertices)) (now (s .args .polygons)) (s .args .from .node) (s .pre .1 .0 .stands) (l .round) (l .inv .goes) (sym (c .before .before .is-over .ensures) ∙ not-true (c .before .before .is-over .result) (c .before .if1 .taken)) in
+    (t .entry-in, t .taken-in)
+
+make-edge-requires : tie.Need-make-edge-requires Inv-loop μ-loop
+make-edge-requires c κs =
+    let s = c .before .before .before .before .before .before .before .before .before .before .before .before .before .before .before .before in
+    let f = floorOf (s .args .task .slots) (now (s .args .vertices)) (now (s .args .polygons)) in
+    let l = c .before .before .before .before .before .before .before .loop in
+    (l .inv .yet .fit, (leaves-on (s .pre .1 .0) (l .inv .yet .numbered), (c .before .before .before .before .before .before .before .before .before .new .ensures, subst (λ (i : ℕ). i < s .args .task .slots) (sym (c .before .before .before .edge .ensures)) (edge-inside (s .args .task .slots) (now (s .args .vertices)) (now (s .args .polygons)) (s .args .from .node) (s .pre .1 .0 .stands) (l .round) (l .inv .goes) (sym (c .before .before .before .before .before .before .is-over .ensures) ∙ not-true (c .before .before .before .before .before .before .is-over .result) (c .before .before .before .before .before .if1 .taken))), subst Yielded (sym (c .before .before .before .before .walk-on .ensures)) (on-yields f (s .args .from .node) (l .round)))))
 
 same-length : tie.Need-same-length Inv-loop μ-loop
-same-length c = c .before .before .before .before .before .before .before .make-part .kept .1 .1 .1 .1 .1 .1 .1 .0 ∙ c .before .before .before .before .before .before .before .before .before .before .before .before .before .loop .inv .long .floats-long
+same-length c = c .before .before .before .before .before .before .before .make-edge .kept .1 .1 .1 .1 .1 .1 .1 .1 .0 ∙ c .before .before .before .before .before .before .before .before .before .before .before .before .before .before .before .loop .inv .yet .long .floats-long
 
 same-length-2 : tie.Need-same-length-2 Inv-loop μ-loop
-same-length-2 c = c .before .before .before .before .before .before .before .make-part .kept .1 .1 .1 .1 .1 .1 .1 .1 .0 ∙ c .before .before .before .before .before .before .before .before .before .before .before .before .before .loop .inv .long .words-long
+same-length-2 c = c .before .before .before .before .before .before .before .make-edge .kept .1 .1 .1 .1 .1 .1 .1 .1 .1 .0 ∙ c .before .before .before .before .before .before .before .before .before .before .before .before .before .before .before .loop .inv .yet .long .words-long
 
 same-length-3 : tie.Need-same-length-3 Inv-loop μ-loop
-same-length-3 c = c .before .before .before .before .before .before .before .make-part .kept .1 .1 .1 .1 .1 .1 .1 .1 .1 .0 ∙ c .before .before .before .before .before .before .before .before .before .before .before .before .before .loop .inv .long .queue-long
+same-length-3 c = c .before .before .before .before .before .before .before .make-edge .kept .1 .1 .1 .1 .1 .1 .1 .1 .1 .1 .0 ∙ c .before .before .before .before .before .before .before .before .before .before .before .before .before .before .before .loop .inv .yet .long .queue-long
 
 returns : tie.Need-returns Inv-loop μ-loop
 returns c =
-    let s = c .before .before .before .before .before .before .before .before .before .before .before .before .before .before .before .before .before .before .before .before .before .before in
-    let l = c .before .before .before .before .before .before .before .before .before .before .before .before .before .loop in
+    let s = c .before .before .before .before .before .before .before .before .before .before .before .before .before .before .before .before .before .before .before .before .before .before .before .before in
+    let was = stateOf (workOf (now (s .args .floats)) (now (s .args .words)) (now (s .args .tree))) (s .args .counts) in
+    let l = c .before .before .before .before .before .before .before .before .before .before .before .before .before .before .before .loop in
     let at = stateOf (workOf (l .floats) (l .words) (l .tree)) (l .counts) in
-    loops-full (now (s .args .vertices)) (now (s .args .polygons)) (s .args .task) (s .args .from) (s .pre .1 .0 .stands) (stateOf (workOf (now (s .args .floats)) (now (s .args .words)) (now (s .args .tree))) (s .args .counts)) at (l .going) (l .inv) (sym (c .before .before .before .before .before .before .before .before .before .before .before .before .is-over .ensures) ∙ not-true (c .before .before .before .before .before .before .before .before .before .before .before .before .is-over .result) (c .before .before .before .before .before .before .before .before .before .before .before .if1 .taken)) _ (c .before .before .before .before .before .before .before .make-part .ensures) (c .if2 .taken)
+    loops-full (now (s .args .vertices)) (now (s .args .polygons)) (s .args .task) (s .args .from) (s .pre .1 .0 .stands) was at (l .round) (l .inv) (sym (c .before .before .before .before .before .before .before .before .before .before .before .before .before .before .is-over .ensures) ∙ not-true (c .before .before .before .before .before .before .before .before .before .before .before .before .before .before .is-over .result) (c .before .before .before .before .before .before .before .before .before .before .before .before .before .if1 .taken)) _ _ (c .before .before .before .before .before .before .before .before .before .before .before .before .walk-on .ensures) (c .before .before .before .before .before .before .before .before .before .before .before .edge .ensures) _ (c .before .before .before .before .before .before .before .make-edge .ensures) (c .if2 .taken)
 
 next-requires : tie.Need-next-requires Inv-loop μ-loop
-next-requires c κs =
-    let s = c .before .before .before .before .before .before .before .before .before .before .before .before .before .before .before .before .before .before .before .before .before .before .before in
-    (s .pre .1 .0 .stands, (c .before .before .before .before .before .before .before .before .before .before .before .before .before .before .loop .inv .goes, (sym (c .before .before .before .before .before .before .before .before .before .before .before .before .before .is-over .ensures) ∙ not-true (c .before .before .before .before .before .before .before .before .before .before .before .before .before .is-over .result) (c .before .before .before .before .before .before .before .before .before .before .before .before .if1 .taken))))
+next-requires c κs = c .before .before .before .before .before .before .before .before .before .before .before .before .before .before .before .before .loop .inv .goes .taken-in
 
 loop-less : tie.Need-loop-less Inv-loop μ-loop
 loop-less c =
-    let s = c .before .before .before .before .before .before .before .before .before .before .before .before .before .before .before .before .before .before .before .before .before .before .before .before in
-    let l = c .before .before .before .before .before .before .before .before .before .before .before .before .before .before .before .loop in
+    let s = c .before .before .before .before .before .before .before .before .before .before .before .before .before .before .before .before .before .before .before .before .before .before .before .before .before .before in
+    let was = stateOf (workOf (now (s .args .floats)) (now (s .args .words)) (now (s .args .tree))) (s .args .counts) in
+    let l = c .before .before .before .before .before .before .before .before .before .before .before .before .before .before .before .before .before .loop in
     let at = stateOf (workOf (l .floats) (l .words) (l .tree)) (l .counts) in
-    loops-less (now (s .args .vertices)) (now (s .args .polygons)) (s .args .task) (s .args .from) (s .pre .1 .0 .stands) (stateOf (workOf (now (s .args .floats)) (now (s .args .words)) (now (s .args .tree))) (s .args .counts)) at (l .going) (l .inv) (sym (c .before .before .before .before .before .before .before .before .before .before .before .before .before .before .is-over .ensures) ∙ not-true (c .before .before .before .before .before .before .before .before .before .before .before .before .before .before .is-over .result) (c .before .before .before .before .before .before .before .before .before .before .before .before .before .if1 .taken)) (c .next .ensures)
+    loops-less (now (s .args .vertices)) (now (s .args .polygons)) (s .args .task) (s .args .from) (s .pre .1 .0 .stands) was at (l .round) (l .inv) (sym (c .before .before .before .before .before .before .before .before .before .before .before .before .before .before .before .before .is-over .ensures) ∙ not-true (c .before .before .before .before .before .before .before .before .before .before .before .before .before .before .before .before .is-over .result) (c .before .before .before .before .before .before .before .before .before .before .before .before .before .before .before .if1 .taken)) _ (c .next .ensures)
 
 loop-again : tie.Need-loop-again Inv-loop μ-loop
 loop-again c =
-    let s = c .before .before .before .before .before .before .before .before .before .before .before .before .before .before .before .before .before .before .before .before .before .before .before .before in
-    let l = c .before .before .before .before .before .before .before .before .before .before .before .before .before .before .before .loop in
+    let s = c .before .before .before .before .before .before .before .before .before .before .before .before .before .before .before .before .before .before .before .before .before .before .before .before .before .before in
+    let was = stateOf (workOf (now (s .args .floats)) (now (s .args .words)) (now (s .args .tree))) (s .args .counts) in
+    let l = c .before .before .before .before .before .before .before .before .before .before .before .before .before .before .before .before .before .loop in
     let at = stateOf (workOf (l .floats) (l .words) (l .tree)) (l .counts) in
-    loops-next (now (s .args .vertices)) (now (s .args .polygons)) (s .args .task) (s .args .from) (s .pre .1 .0 .stands) (stateOf (workOf (now (s .args .floats)) (now (s .args .words)) (now (s .args .tree))) (s .args .counts)) at (l .going) (l .inv) (sym (c .before .before .before .before .before .before .before .before .before .before .before .before .before .before .is-over .ensures) ∙ not-true (c .before .before .before .before .before .before .before .before .before .before .before .before .before .before .is-over .result) (c .before .before .before .before .before .before .before .before .before .before .before .before .before .if1 .taken)) _ (c .before .before .before .before .before .before .before .before .before .make-part .ensures) (c .before .before .if2 .left) (record { floats-long = c .before .before .before .before .before .before .before .before .before .make-part .kept .1 .1 .1 .1 .1 .1 .1 .0; words-long = c .before .before .before .before .before .before .before .before .before .make-part .kept .1 .1 .1 .1 .1 .1 .1 .1 .0; queue-long = c .before .before .before .before .before .before .before .before .before .make-part .kept .1 .1 .1 .1 .1 .1 .1 .1 .1 .0 }) (c .next .ensures)
+    loops-next (now (s .args .vertices)) (now (s .args .polygons)) (s .args .task) (s .args .from) (s .pre .1 .0 .stands) was at (l .round) (l .inv) (sym (c .before .before .before .before .before .before .before .before .before .before .before .before .before .before .before .before .is-over .ensures) ∙ not-true (c .before .before .before .before .before .before .before .before .before .before .before .before .before .before .before .before .is-over .result) (c .before .before .before .before .before .before .before .before .before .before .before .before .before .before .before .if1 .taken)) _ _ (c .before .before .before .before .before .before .before .before .before .before .before .before .before .before .walk-on .ensures) (c .before .before .before .before .before .before .before .before .before .before .before .before .before .edge .ensures) _ (c .before .before .before .before .before .before .before .before .before .make-edge .ensures) (c .before .before .if2 .left) (record { floats-long = c .before .before .before .before .before .before .before .before .before .make-edge .kept .1 .1 .1 .1 .1 .1 .1 .1 .0; words-long = c .before .before .before .before .before .before .before .before .before .make-edge .kept .1 .1 .1 .1 .1 .1 .1 .1 .1 .0; queue-long = c .before .before .before .before .before .before .before .before .before .make-edge .kept .1 .1 .1 .1 .1 .1 .1 .1 .1 .1 .0 }) (c .next .ensures)
 
 same-length-4 : tie.Need-same-length-4 Inv-loop μ-loop
-same-length-4 c = c .before .before .loop .inv .long .floats-long
+same-length-4 c = c .before .before .loop .inv .yet .long .floats-long
 
 same-length-5 : tie.Need-same-length-5 Inv-loop μ-loop
-same-length-5 c = c .before .before .loop .inv .long .words-long
+same-length-5 c = c .before .before .loop .inv .yet .long .words-long
 
 same-length-6 : tie.Need-same-length-6 Inv-loop μ-loop
-same-length-6 c = c .before .before .loop .inv .long .queue-long
+same-length-6 c = c .before .before .loop .inv .yet .long .queue-long
 
 returns-2 : tie.Need-returns-2 Inv-loop μ-loop
 returns-2 c =
     let s = c .before .before .before .before .before .before .before .before .before .before .before in
+    let was = stateOf (workOf (now (s .args .floats)) (now (s .args .words)) (now (s .args .tree))) (s .args .counts) in
     let l = c .before .before .loop in
     let at = stateOf (workOf (l .floats) (l .words) (l .tree)) (l .counts) in
-    loops-over (now (s .args .vertices)) (now (s .args .polygons)) (s .args .task) (s .args .from) (s .pre .1 .0 .stands) (stateOf (workOf (now (s .args .floats)) (now (s .args .words)) (now (s .args .tree))) (s .args .counts)) at (l .going) (l .inv) (sym (c .before .is-over .ensures) ∙ not-false (c .before .is-over .result) (c .if1 .left))
+    loops-over (now (s .args .vertices)) (now (s .args .polygons)) (s .args .task) (s .args .from) (s .pre .1 .0 .stands) was at (l .round) (l .inv) (sym (c .before .is-over .ensures) ∙ not-false (c .before .is-over .result) (c .if1 .left))
 
 pub make-steps-spec : {M : Type 1} → statement M
 make-steps-spec =
@@ -100,7 +124,9 @@ make-steps-spec =
     begin-requires
     loop-holds
     is-over-requires
-    make-part-requires
+    walk-on-requires
+    edge-requires
+    make-edge-requires
     same-length
     same-length-2
     same-length-3
