@@ -172,7 +172,8 @@ fn make(
     }
 }
 
-// Makes the node behind a part of an edge, if a step leads over it.
+// Makes the node behind a part of an edge, if a step leads over it. The step is asked for in two, the neighbour first: at a
+// wall, and where the kind is not allowed, nothing is laid out for the clip.
 fn make_part(
     vertices: &[u8],
     polygons: &[u8],

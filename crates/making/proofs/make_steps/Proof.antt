@@ -4,7 +4,6 @@ use mathlib.Core.Path.{sym, _∙_, subst}
 use Prim.Native.Nat.{ℕ, _<_}
 use borrow.Author.Tests.{not-true, not-false}
 use Rattle.stored.specs.Stored.{floorOf}
-use Rattle.walk.specs.declared.Walked.{Walked}
 use Rattle.going.specs.Going.{Yielded}
 use Rattle.going.proofs.Rounds.{turning, on-yields, edgesLeft}
 use Rattle.going.proofs.Stepping.{edge-inside}
