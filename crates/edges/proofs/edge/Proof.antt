@@ -1,3 +1,4 @@
+use mathlib.Core.Path.{refl}
 -- `edges::edge` meets its contract: both vertices of an edge are inside the vertex list. Assumes nothing.
 use denote.Ref.{now}
 use Rattle.edges.proofs.Inside.{slot-inside, corner-below, after-below, edge-stored}
@@ -24,7 +25,7 @@ used-vertex-requires-2 : tie.Need-used-vertex-requires-2
 used-vertex-requires-2 c κs = rw (c .before .corner-after .ensures) (after-below (c .before .before .before .before .before .args .slots) (now (c .before .before .before .before .before .args .vertices)) (now (c .before .before .before .before .before .args .polygons)) (c .before .before .before .before .before .args .p) (c .before .before .before .before .before .pre .0) (c .before .before .before .before .before .args .i) (c .before .before .before .before .before .pre .1))
 
 returns : tie.Need-returns
-returns c = rw (edge-stored (c .before .before .before .before .before .before .args .slots) (now (c .before .before .before .before .before .before .args .vertices)) (now (c .before .before .before .before .before .before .args .polygons)) (c .before .before .before .before .before .before .args .p) (c .before .before .before .before .before .before .pre .0) (c .before .before .before .before .before .before .args .i) (c .before .before .before .before .before .before .pre .1), ← c .before .before .before .corner .ensures, ← c .before .before .corner-after .ensures, ← c .before .used-vertex .ensures, ← c .used-vertex2 .ensures)
+returns c = rw (edge-stored (c .before .before .before .before .before .before .args .slots) (now (c .before .before .before .before .before .before .args .vertices)) (now (c .before .before .before .before .before .before .args .polygons)) (c .before .before .before .before .before .before .args .p) (c .before .before .before .before .before .before .pre .0) (c .before .before .before .before .before .before .args .i) (c .before .before .before .before .before .before .pre .1), ← c .before .before .before .corner .ensures, ← c .before .before .corner-after .ensures, ← c .before .used-vertex .ensures, ← c .used-vertex2 .ensures) refl
 
 pub edge-spec : {M : Type 1} → statement M
 edge-spec =
