@@ -1,18 +1,20 @@
-// The step with a number, by one walk round the node's polygon.
+// The step with a number, by one walk round the node's polygon, an edge at a time.
 
 ghost use mathlib.Core.Path.{_≡_};
-ghost use Prim.Native.Nat.{_/_, _≤_};
+ghost use Prim.Native.Nat.{_/_, _≤_, _<_};
 ghost use lib.ListN.{length};
-ghost use Rattle.stored.specs.Stored.{floorOf};
+ghost use Rattle.walk.specs.Walk.{partsOf};
+ghost use Rattle.stored.specs.Stored.{floorOf, polygonAt};
 ghost use Rattle.edges.specs.Where.{marksOf};
 ghost use Rattle.steps.specs.Steps.{stepsFrom};
-ghost use Rattle.going.specs.Going.{Stands};
-ghost use Rattle.steps_c.specs.Kth.{kth, countedOf};
+ghost use Rattle.going.specs.Going.{Stands, Yielded};
+ghost use Rattle.steps_c.specs.Kth.{kth, countedOf, countedOn};
 use floor::SLOTS;
 use route::Step;
 use steps::Node;
 use steps::Permitted;
 use view::View;
+use walk::Walked;
 
 // Whether the step that is sought is here, or which of those behind it is.
 enum Counted {
@@ -35,6 +37,28 @@ fn count_off(permitted: Permitted, k: usize) -> Counted
     }
 }
 
+// Step k of those that begin with the steps over an edge's parts, if it is one of these.
+fn count_on_edge(polygons: &[u8], view: View, edge: usize, walked: Walked, k: usize) -> Counted
+    requires { ⌜ (edge < 8) × (view .node .polygon < length (now polygons) / 64) ⌝ }
+    requires { ⌜ Yielded walked ⌝ }
+    ensures { λ r. ⌜ r ≡ countedOn (polygonAt 8 (now (polygons .entry)) (view .node .polygon)) view edge (partsOf walked) k ⌝ }
+{
+    let mut rest = k;
+    let mut j = 0;
+    while j < walked.count {
+        let permitted = view.step(polygons, SLOTS, edge, walked.parts[j]);
+        let counted = count_off(permitted, rest);
+        match counted {
+            Counted::Here(step) => return Counted::Here(step),
+            Counted::Further(behind) => {
+                rest = behind;
+                j += 1;
+            }
+        }
+    }
+    Counted::Further(rest)
+}
+
 // Step k out of the node, counted from 0. Nothing steps out of the goal polygon.
 pub fn kth_step(
     vertices: &[u8],
@@ -52,16 +76,17 @@ pub fn kth_step(
         return Permitted::No;
     }
     let view = View::new(vertices, polygons, SLOTS, marks, node);
-    let mut going = going::begin(vertices, polygons, SLOTS, node);
+    let mut round = going::begin(polygons, SLOTS, node);
     let mut left = k;
-    while !going.is_over() {
-        let permitted = view.step(polygons, SLOTS, going.edge, going.part());
-        let counted = count_off(permitted, left);
+    while !round.is_over() {
+        let walked = going::walk_on(vertices, polygons, SLOTS, node, round);
+        let counted = count_on_edge(polygons, view, round.edge(), walked, left);
         match counted {
             Counted::Here(step) => return Permitted::Yes(step),
             Counted::Further(rest) => {
                 left = rest;
-                going = going.next(vertices, polygons, SLOTS, node);
+                let kind = walked.kind;
+                round = round.next(kind);
             }
         }
     }
