@@ -89,12 +89,29 @@ fn guess(digits: u32, places: u32) -> u32
     (float::to_bits(second) % 0x200_0000 + 0x100_0000) % 0x200_0000
 }
 
+// The guess, or one beside it that is nearer to the root of n. A guess is seldom off by more; so the search from here mostly has
+// nowhere to go, and no branch of it is taken that a processor could not foresee. Only its range is proved.
+fn nudged(n: u64, guess: u64) -> u64
+    requires { ⌜ (n < 2 ^ 48) × (guess < 2 ^ 25) ⌝ }
+    ensures { λ r. ⌜ r < 2 ^ 25 ⌝ }
+{
+    let square = guess * guess;
+    if n + guess <= square {
+        return (guess + 0x1FF_FFFF) % 0x200_0000;
+    }
+    if square + guess < n {
+        return (guess + 1) % 0x200_0000;
+    }
+    guess
+}
+
 // The whole number nearest to the root of n.
 fn nearest(n: u64, guess: u32) -> u32
     requires { ⌜ (0 < n) × (n + 2 ^ 24 ≤ 2 ^ 48) × (guess < 2 ^ 25) ⌝ }
     ensures { λ r. ⌜ Close n r ⌝ }
 {
-    raised(n, lowered(n, guess as u64)) as u32
+    let start = nudged(n, guess as u64);
+    raised(n, lowered(n, start)) as u32
 }
 
 // Down from the guess, to a number that is not too large.
