@@ -167,6 +167,45 @@ build_beside() { # FOLDER
     build_linked "$1"
 }
 
+# For times, since an emulator's say nothing: on a processor that rt writes no library for, the module that the library was compiled
+# from, compiled once more for this one by the kit's compiler with the same words. The kit's folder is laid again for it, all of it by links
+# but for a compiler that keeps the module.
+library_for_here() { # CRATE
+    local kit laid=$out/kit tools=on/$processor/toolchain path layout
+    kit=${RATTLE_HOME:-$(dirname "$(dirname "$(readlink -f "$(command -v rt)")")")}
+    rm -rf "$laid"
+    mkdir -p "$laid/$tools/bin" "$out/native"
+    for path in $(cd "$kit" && ls -d ./* "on/$processor"/* "$tools"/* "$tools/bin"/*); do
+        [ -e "$laid/$path" ] || [ "$path" = "$tools/bin/clang" ] || ln -s "$kit/$path" "$laid/$path"
+    done
+    printf '%s\n' '#!/bin/sh' "cp module.bc '$out/$1.bc'" "exec '$kit/$tools/bin/clang' \"\$@\"" >"$laid/$tools/bin/clang"
+    chmod +x "$laid/$tools/bin/clang"
+    RATTLE_HOME=$laid prove_libraries "$1"
+    local clang=$kit/$tools/bin/clang module=$out/native/$1.ll
+    "$clang" --target=x86_64-unknown-linux-gnu -O0 -Xclang -disable-llvm-passes -S -emit-llvm -x ir "$out/$1.bc" -o "$module"
+    layout=$(echo 'int x;' | "$clang" --target="$processor-unknown-linux-gnu" -S -emit-llvm -x c - -o - | grep '^target datalayout')
+    sed -i "s/^target datalayout.*/$layout/; s/^target triple.*/target triple = \"$processor-unknown-linux-gnu\"/" "$module"
+    "$clang" --target="$processor-unknown-linux-gnu" -ffunction-sections -fdata-sections -mllvm -trap-unreachable \
+        -mllvm -no-trap-after-noreturn -fPIC -O3 -c -x ir "$module" -o "$out/native/$1.o"
+    rm -f "$out/native/lib$1.a"
+    "$kit/$tools/bin/llvm-ar" rcs "$out/native/lib$1.a" "$out/native/$1.o"
+}
+
+# As build_beside, for this processor itself.
+build_here() { # FOLDER
+    if [ "$processor" = x86_64 ]; then
+        build_beside "$1"
+        return
+    fi
+    emulator=''
+    install_rust
+    library_for_here cart_c
+    lay_workspace
+    cp -r "$root/$1/src" "$crates/harness/src/bin/$1"
+    STATICLIB=$out/native build --bin "$1"
+    program=$out/cargo/release/$1
+}
+
 # Every instruction of a run, counted one by one: by valgrind on x86-64, elsewhere by the emulator's own trace.
 instructions() { # PROGRAM WORDS...
     if [ -z "$emulator" ]; then

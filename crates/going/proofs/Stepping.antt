@@ -19,7 +19,7 @@ use Rattle.going.proofs.Rounds.{its-polygon, turning}
 use Rattle.view.proofs.Seen.{step-by-view}
 
 -- the view out of a node is the node's
-pub viewed-polygon : (f : Floor) (node : Node) (view : View) (n : ℕ) → view ≡ viewOf f node → node .polygon < n → view .node .polygon < n
+pub viewed-polygon : (f : Floor) (node : Node) (view : View) (n : ℕ) → view ≡ viewOf f node → node .polygon < n → view .polygon < n
 unfolding viewOf
 viewed-polygon f node view n e h = rw e h
 
@@ -30,11 +30,11 @@ module _ (s : ℕ) (vs ps : List ℕ) (node : Node) (h : Stands s vs ps node) wh
   pub edge-inside : (round : Round) → Goes (polygonAt s ps (node .polygon)) node round → isOverOf round ≡ false → edgeNumberOf round < s
   edge-inside round goes on = slot-inside s vs ps (node .polygon) (h .listed) (edgeNumberOf round) (turning s vs ps node h round goes on .edge-in)
 
-  pub step-on : (view : View) (i : ℕ) (part : Part) (p : Permitted) → view ≡ viewOf f node → p ≡ stepBy (polygonAt s ps (view .node .polygon)) view i part
+  pub step-on : (view : View) (i : ℕ) (part : Part) (p : Permitted) → view ≡ viewOf f node → p ≡ stepBy (polygonAt s ps (view .polygon)) view i part
       → p ≡ stepOf f node (record { edge = i; part = part })
   unfolding viewOf
   step-on view i part p v e =
       e
-      ∙ ap (λ (w : View). stepBy (polygonAt s ps (w .node .polygon)) w i part) v
+      ∙ ap (λ (w : View). stepBy (polygonAt s ps (w .polygon)) w i part) v
       ∙ ap (λ (q : Polygon). stepBy q (viewOf f node) i part) (sym (its-polygon s vs ps node h))
       ∙ step-by-view f node i part

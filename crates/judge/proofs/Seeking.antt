@@ -109,7 +109,7 @@ module _ (s : ℕ) (vs ps : List ℕ) (node : Node) (h : Stands s vs ps node) (g
 
   -- what the view tells of an edge's parts is what the steps over them are
   module _ (view : View) (v : view ≡ viewOf f node) (i : ℕ) where
-    on-edge : (parts : List Part) → soughtOn (polygonAt s ps (view .node .polygon)) view i parts bytes ≡ findStep (stepsOver f node (successorsOn i parts)) bytes
+    on-edge : (parts : List Part) → soughtOn (polygonAt s ps (view .polygon)) view i parts bytes ≡ findStep (stepsOver f node (successorsOn i parts)) bytes
     unfolding soughtOn stepsOver findStep
     on-edge [] = refl
     on-edge (part ∷ parts) =
@@ -118,7 +118,7 @@ module _ (s : ℕ) (vs ps : List ℕ) (node : Node) (h : Stands s vs ps node) (g
 
   module _ (round : Round) (goes : Goes its node round) (on : isOverOf round ≡ false) (inv : Sought-in f goal node bytes round)
       (view : View) (v : view ≡ viewOf f node) (walked : Walked) (w : walked ≡ walkedOn f node round) (i : ℕ) (n : i ≡ edgeNumberOf round)
-      (sought : Sought) (d : sought ≡ soughtOn (polygonAt s ps (view .node .polygon)) view i (partsOf walked) bytes) where
+      (sought : Sought) (d : sought ≡ soughtOn (polygonAt s ps (view .polygon)) view i (partsOf walked) bytes) where
     -- what is left, the round's edge first
     edge-first : findStep (stepsFrom f goal node) bytes ≡ orElse sought (findStep (stepsOver f node (leftIn f node (nextOf round (walked .kind)))) bytes)
     edge-first =

@@ -45,9 +45,9 @@ fn find_on_edge(
     route: &[u8],
     i: usize,
 ) -> Sought
-    requires { ⌜ (slots ≤ 16) × (edge < slots) × (view .node .polygon < length (now polygons) / (slots * 8)) ⌝ }
+    requires { ⌜ (slots ≤ 16) × (edge < slots) × (view .polygon < length (now polygons) / (slots * 8)) ⌝ }
     requires { ⌜ Yielded walked × ((i + 1) * 32 ≤ length (now route)) ⌝ }
-    ensures { λ r. ⌜ r ≡ soughtOn (polygonAt slots (now (polygons .entry)) (view .node .polygon)) view edge (partsOf walked) (recordAt (now (route .entry)) i) ⌝ }
+    ensures { λ r. ⌜ r ≡ soughtOn (polygonAt slots (now (polygons .entry)) (view .polygon)) view edge (partsOf walked) (recordAt (now (route .entry)) i) ⌝ }
 {
     let mut k = 0;
     while k < walked.count {

@@ -21,16 +21,16 @@ use Rattle.machine.specs.Search.{State, Making, making, made, madeIf, madeAll}
 
 -- the step, asked for in two: the neighbour, then the step over to it
 module _ (s : ℕ) (vs ps : List ℕ) (node : Node) (h : Stands s vs ps node) (view : View) (v : view ≡ viewOf (floorOf s vs ps) node) (edge : ℕ) (part : Part)
-    (n : ℕ) (e : n ≡ neighbourBy (polygonAt s ps (view .node .polygon)) view edge (part .kind)) where
+    (n : ℕ) (e : n ≡ neighbourBy (polygonAt s ps (view .polygon)) view edge (part .kind)) where
   pub no-step : n ≡ unused → No ≡ stepOf (floorOf s vs ps) node (record { edge = edge; part = part })
-  no-step wall = step-on s vs ps node h view edge part No v (no-neighbour-no-step (polygonAt s ps (view .node .polygon)) view edge part e wall)
+  no-step wall = step-on s vs ps node h view edge part No v (no-neighbour-no-step (polygonAt s ps (view .polygon)) view edge part e wall)
 
-  pub step-over : (n ≡ unused → ⊥) → (clips : Bool) → clips ≡ clipsBy view (part .kind) → (p : Permitted) → p ≡ overBy (polygonAt s ps (view .node .polygon)) edge n part clips (view .cone)
+  pub step-over : (n ≡ unused → ⊥) → (clips : Bool) → clips ≡ clipsBy view (part .kind) → (p : Permitted) → p ≡ overBy (polygonAt s ps (view .polygon)) edge n part clips (view .cone)
       → p ≡ stepOf (floorOf s vs ps) node (record { edge = edge; part = part })
   step-over other clips c p x =
       step-on s vs ps node h view edge part p v
-      (step-to-neighbour (polygonAt s ps (view .node .polygon)) view edge part e other
-      (x ∙ ap (λ (b : Bool). overBy (polygonAt s ps (view .node .polygon)) edge n part b (view .cone)) c))
+      (step-to-neighbour (polygonAt s ps (view .polygon)) view edge part e other
+      (x ∙ ap (λ (b : Bool). overBy (polygonAt s ps (view .polygon)) edge n part b (view .cone)) c))
 
 -- what is made if a place was left, else what was made before
 abbrev pub unlessFull : Making → Making → Making

@@ -201,7 +201,7 @@ fn make_part(
             full: false,
         };
     }
-    let polygon = view.node.polygon;
+    let polygon = view.polygon;
     let clips = view.clips(kind);
     let cone = view.cone;
     match view::over(polygons, slots, polygon, edge, neighbour, part, clips, cone) {

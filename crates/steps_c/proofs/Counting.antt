@@ -104,19 +104,19 @@ module _ (s : ℕ) (vs ps : List ℕ) (node : Node) (h : Stands s vs ps node) (g
 
   -- what the view tells of an edge's parts is what the steps over them are
   module _ (view : View) (v : view ≡ viewOf f node) (i : ℕ) (ys : List Step) where
-    on-edge : (parts : List Part) (left : ℕ) → kth (stepsOver f node (successorsOn i parts) ++ ys) left ≡ among (countedOn (polygonAt s ps (view .node .polygon)) view i parts left) ys
+    on-edge : (parts : List Part) (left : ℕ) → kth (stepsOver f node (successorsOn i parts) ++ ys) left ≡ among (countedOn (polygonAt s ps (view .polygon)) view i parts left) ys
     unfolding countedOn stepsOver
     on-edge [] left = refl
     on-edge (part ∷ parts) left =
         rw (step-on s vs ps node h view i part _ v refl)
-        (kth-both (stepOf f node (record { edge = i; part = part })) (stepsOver f node (successorsOn i parts)) ys (countedOn (polygonAt s ps (view .node .polygon)) view i parts) (on-edge parts) left)
+        (kth-both (stepOf f node (record { edge = i; part = part })) (stepsOver f node (successorsOn i parts)) ys (countedOn (polygonAt s ps (view .polygon)) view i parts) (on-edge parts) left)
 
   module _ (round : Round) (left : ℕ) (inv : Counted-in f goal node k round left) where
     pub counting-ends : isOverOf round ≡ true → kth (stepsFrom f goal node) k ≡ No
     counting-ends o = inv ∙ ap (λ (l : List Successor). kth (stepsOver f node l) left) (left-over s vs ps node h round o) ∙ over-none f node left
 
     module _ (goes : Goes its node round) (on : isOverOf round ≡ false) (view : View) (v : view ≡ viewOf f node) (walked : Walked) (w : walked ≡ walkedOn f node round)
-        (i : ℕ) (n : i ≡ edgeNumberOf round) (counted : Counted) (d : counted ≡ countedOn (polygonAt s ps (view .node .polygon)) view i (partsOf walked) left) where
+        (i : ℕ) (n : i ≡ edgeNumberOf round) (counted : Counted) (d : counted ≡ countedOn (polygonAt s ps (view .polygon)) view i (partsOf walked) left) where
       abbrev behind : List Step
       behind = stepsOver f node (leftIn f node (nextOf round (walked .kind)))
 

@@ -39,9 +39,9 @@ fn count_off(permitted: Permitted, k: usize) -> Counted
 
 // Step k of those that begin with the steps over an edge's parts, if it is one of these.
 fn count_on_edge(polygons: &[u8], view: View, edge: usize, walked: Walked, k: usize) -> Counted
-    requires { ⌜ (edge < 8) × (view .node .polygon < length (now polygons) / 64) ⌝ }
+    requires { ⌜ (edge < 8) × (view .polygon < length (now polygons) / 64) ⌝ }
     requires { ⌜ Yielded walked ⌝ }
-    ensures { λ r. ⌜ r ≡ countedOn (polygonAt 8 (now (polygons .entry)) (view .node .polygon)) view edge (partsOf walked) k ⌝ }
+    ensures { λ r. ⌜ r ≡ countedOn (polygonAt 8 (now (polygons .entry)) (view .polygon)) view edge (partsOf walked) k ⌝ }
 {
     let mut rest = k;
     let mut j = 0;

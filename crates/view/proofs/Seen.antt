@@ -22,7 +22,7 @@ use Rattle.steps.specs.declared.Permitted.{Permitted}
 use Rattle.steps.specs.declared.Permitted.the-variants.{Yes, No}
 use Rattle.steps.specs.Steps.{isAllowed, rootAfter, clipped, isInterval, ifSeen, stepOf}
 use Rattle.view.specs.declared.View.{View}
-use Rattle.view.specs.View.{cornerOn, viewOf, allowsOf, turnedTo, clipsBy, neighbourBy, clipIf, overBy, stepBy}
+use Rattle.view.specs.View.{cornerOn, viewOf, allowsOf, keepsBy, clipsBy, neighbourBy, clipIf, overBy, stepBy}
 
 -- a turn vertex is marked, and no other is
 pub mark-tells : (f : Floor) (marks : List ℕ) (v : ℕ) → marks ≡ marksOf f → v < 1024 → isMarked marks v ≡ isTurn f v
@@ -35,16 +35,16 @@ module _ (f : Floor) (node : Node) where
   allows-is RightNonObservable = refl
   allows-is LeftNonObservable = refl
 
-  turned-is : (kind : SuccessorType) → turnedTo (viewOf f node) kind ≡ rootAfter f node kind
-  unfolding turnedTo viewOf cornerOn rootAfter
-  turned-is Observable = refl
-  turned-is RightNonObservable = refl
-  turned-is LeftNonObservable = refl
+  keeps-is : (kind : SuccessorType) → keepsBy (viewOf f node) kind ≡ sameOf (rootAfter f node kind) (node .root)
+  unfolding keepsBy viewOf cornerOn rootAfter
+  keeps-is Observable = refl
+  keeps-is RightNonObservable = refl
+  keeps-is LeftNonObservable = refl
 
   seen-is : (kind : SuccessorType) (interval : Segment) → clipIf (clipsBy (viewOf f node) kind) (viewOf f node .cone) interval ≡ clipped f node kind interval
   unfolding clipIf clipsBy clipped viewOf
   seen-is kind interval =
-      rw (turned-is kind)
+      rw (keeps-is kind)
       (ap (λ (x : Clipped). cond (cond (node .seed) false (sameOf (rootAfter f node kind) (node .root))) x (Seen interval)) (kept-cone-clips-the-same (node .root) (node .interval) interval)
       ∙ go (clipToConeOf (node .root) (node .interval) interval) (Seen interval) (node .seed) (sameOf (rootAfter f node kind) (node .root)))
     where

@@ -23,13 +23,15 @@ use Rattle.steps.specs.declared.Permitted.{Permitted}
 use Rattle.steps.specs.declared.Permitted.the-variants.{Yes, No}
 use Rattle.steps.specs.Steps.{isInterval, ifSeen}
 
--- a vertex of the entry edge, which the interval's end on that side may land on
+-- a vertex of the entry edge, which the interval's end on that side may land on; it keeps the root where it is the root
 unfoldable pub cornerOn : Floor → ℕ → Point → Point → Corner
-cornerOn f v end root = record { at = vertex f v; allowed = landsOnOf end (vertex f v) root && isTurn f v }
+cornerOn f v end root = record { allowed = landsOnOf end (vertex f v) root && isTurn f v; keeps = sameOf (vertex f v) root }
 
 unfoldable pub viewOf : Floor → Node → View
 viewOf f node = record {
-  node = node;
+  seed = node .seed;
+  polygon = node .polygon;
+  keeps = sameOf (node .root) (node .root);
   cone = coneOf (node .root) (node .interval);
   right = cornerOn f (node .first) (node .interval .0) (node .root);
   left = cornerOn f (node .second) (node .interval .1) (node .root);
@@ -40,14 +42,15 @@ allowsOf view Observable = true
 allowsOf view RightNonObservable = view .right .allowed
 allowsOf view LeftNonObservable = view .left .allowed
 
-unfoldable pub turnedTo : View → SuccessorType → Point
-turnedTo view Observable = view .node .root
-turnedTo view RightNonObservable = view .right .at
-turnedTo view LeftNonObservable = view .left .at
+-- whether a step over a part of this kind keeps the root
+unfoldable pub keepsBy : View → SuccessorType → Bool
+keepsBy view Observable = view .keeps
+keepsBy view RightNonObservable = view .right .keeps
+keepsBy view LeftNonObservable = view .left .keeps
 
 -- whether a part of this kind is seen through the interval: where the root is kept, and not from the seed
 unfoldable pub clipsBy : View → SuccessorType → Bool
-clipsBy view kind = cond (view .node .seed) false (sameOf (turnedTo view kind) (view .node .root))
+clipsBy view kind = cond (view .seed) false (keepsBy view kind)
 
 -- the neighbour that a part of this kind of edge i may be stepped over to: at a wall, and where the kind is not allowed, there is none
 unfoldable pub neighbourBy : Polygon → View → ℕ → SuccessorType → ℕ

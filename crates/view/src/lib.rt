@@ -6,7 +6,7 @@ ghost use lib.ListN.{length};
 ghost use Rattle.stored.specs.Stored.{floorOf, polygonAt};
 ghost use Rattle.edges.specs.Where.{marksOf};
 ghost use Rattle.steps.specs.Steps.{isFinite, isInterval};
-ghost use Rattle.view.specs.View.{cornerOn, viewOf, allowsOf, turnedTo, clipsBy, neighbourBy, clipIf, overBy, stepBy};
+ghost use Rattle.view.specs.View.{cornerOn, viewOf, allowsOf, keepsBy, clipsBy, neighbourBy, clipIf, overBy, stepBy};
 use cone::Clipped;
 use cone::Cone;
 use cut::SuccessorType;
@@ -18,14 +18,18 @@ use steps::Permitted;
 use stored::UNUSED;
 use walk::Part;
 
-// A vertex of the entry edge: where it is, and whether the way may turn there.
+// A vertex of the entry edge: whether the way may turn there, and whether that keeps the root.
 pub struct Corner {
-    pub at: Point,
     pub allowed: bool,
+    pub keeps: bool,
 }
 
+// Of a node's polygon: whether a part may be stepped over, and through which cone it is seen. A step over a part that is seen keeps
+// the root, unless the root is NaN.
 pub struct View {
-    pub node: Node,
+    pub seed: bool,
+    pub polygon: u32,
+    pub keeps: bool,
     pub cone: Cone,
     pub right: Corner,
     pub left: Corner,
@@ -51,9 +55,10 @@ impl Corner {
         let at = stored::used_vertex(vertices, v as usize);
         let turns = edges::turns::turns(marks, v as usize);
         let lands = cone::lands_on(end, at, root);
+        let keeps = at.same(root);
         Corner {
-            at,
             allowed: lands && turns,
+            keeps,
         }
     }
 }
@@ -90,9 +95,12 @@ impl View {
             interval.1,
             root,
         );
+        let keeps = root.same(root);
         let cone = Cone::new(root, interval);
         View {
-            node,
+            seed: node.seed,
+            polygon: node.polygon,
+            keeps,
             cone,
             right,
             left,
@@ -116,22 +124,19 @@ impl View {
         }
     }
 
-    // The root after a step over a part of this kind.
-    fn turned_to(self, kind: SuccessorType) -> Point
-        ensures { λ r. ⌜ r ≡ turnedTo self kind ⌝ }
+    // Whether a step over a part of this kind keeps the root.
+    fn keeps(self, kind: SuccessorType) -> bool
+        ensures { λ r. ⌜ r ≡ keepsBy self kind ⌝ }
     {
         match kind {
-            SuccessorType::Observable => {
-                let node = self.node;
-                node.root
-            }
+            SuccessorType::Observable => self.keeps,
             SuccessorType::RightNonObservable => {
                 let corner = self.right;
-                corner.at
+                corner.keeps
             }
             SuccessorType::LeftNonObservable => {
                 let corner = self.left;
-                corner.at
+                corner.keeps
             }
         }
     }
@@ -140,44 +145,40 @@ impl View {
     pub fn clips(self, kind: SuccessorType) -> bool
         ensures { λ r. ⌜ r ≡ clipsBy self kind ⌝ }
     {
-        let node = self.node;
-        if node.seed {
+        if self.seed {
             return false;
         }
-        let root = self.turned_to(kind);
-        root.same(node.root)
+        self.keeps(kind)
     }
 
     // The neighbour that a part of this kind of an edge may be stepped over to. At a wall, and where the kind is not allowed,
     // there is none.
     pub fn neighbour(self, polygons: &[u8], slots: usize, edge: usize, kind: SuccessorType) -> u32
-        requires { ⌜ (slots ≤ 16) × (edge < slots) × (self .node .polygon < length (now polygons) / (slots * 8)) ⌝ }
-        ensures { λ r. ⌜ r ≡ neighbourBy (polygonAt slots (now (polygons .entry)) (self .node .polygon)) self edge kind ⌝ }
+        requires { ⌜ (slots ≤ 16) × (edge < slots) × (self .polygon < length (now polygons) / (slots * 8)) ⌝ }
+        ensures { λ r. ⌜ r ≡ neighbourBy (polygonAt slots (now (polygons .entry)) (self .polygon)) self edge kind ⌝ }
     {
         if self.allows(kind) {
-            let node = self.node;
-            return stored::neighbour(polygons, slots, node.polygon as usize, edge);
+            return stored::neighbour(polygons, slots, self.polygon as usize, edge);
         }
         UNUSED
     }
 
     // The step over a part of an edge of the node's polygon, or none.
     pub fn step(self, polygons: &[u8], slots: usize, edge: usize, part: Part) -> Permitted
-        requires { ⌜ (slots ≤ 16) × (edge < slots) × (self .node .polygon < length (now polygons) / (slots * 8)) ⌝ }
-        ensures { λ r. ⌜ r ≡ stepBy (polygonAt slots (now (polygons .entry)) (self .node .polygon)) self edge part ⌝ }
+        requires { ⌜ (slots ≤ 16) × (edge < slots) × (self .polygon < length (now polygons) / (slots * 8)) ⌝ }
+        ensures { λ r. ⌜ r ≡ stepBy (polygonAt slots (now (polygons .entry)) (self .polygon)) self edge part ⌝ }
     {
         let kind = part.kind;
         let neighbour = self.neighbour(polygons, slots, edge, kind);
         if neighbour == UNUSED {
             return Permitted::No;
         }
-        let node = self.node;
         let clips = self.clips(kind);
         let cone = self.cone;
         over(
             polygons,
             slots,
-            node.polygon,
+            self.polygon,
             edge,
             neighbour,
             part,

@@ -12,7 +12,7 @@ use Rattle.judge.proofs.seek.find_on_edge.Statement.{statement}
 use Rattle.judge.proofs.seek.find_on_edge.Tie as tie
 
 abbrev Inv-loop : tie.InvT-loop
-Inv-loop polygons slots view edge route i walked k₀ k = (k ≤ walked .count) × Sought-from (polygonAt slots polygons (view .node .polygon)) view edge walked (recordAt route i) k
+Inv-loop polygons slots view edge route i walked k₀ k = (k ≤ walked .count) × Sought-from (polygonAt slots polygons (view .polygon)) view edge walked (recordAt route i) k
 
 abbrev μ-loop : tie.MeasureT-loop
 μ-loop polygons slots view edge route i walked k₀ k = walked .count - k
@@ -39,7 +39,7 @@ returns : tie.Need-returns Inv-loop μ-loop
 returns c =
     let l = c .before .before .before .before .before .before .before in
     let s = l .before .before .before in
-    sym (part-finds (polygonAt (s .args .slots) (now (s .args .polygons)) (s .args .view .node .polygon)) (s .args .view) (s .args .edge) _ (s .pre .1 .0) (recordAt (now (s .args .route)) (s .args .i)) (l .loop .k) (l .loop .inv .1) (c .before .before .before .before .before .before .loop-test .taken) _ _ (c .before .before .before .before .step .ensures) (c .before .before .before .step-at .ensures) _ (c .before .sought .given .1))
+    sym (part-finds (polygonAt (s .args .slots) (now (s .args .polygons)) (s .args .view .polygon)) (s .args .view) (s .args .edge) _ (s .pre .1 .0) (recordAt (now (s .args .route)) (s .args .i)) (l .loop .k) (l .loop .inv .1) (c .before .before .before .before .before .before .loop-test .taken) _ _ (c .before .before .before .before .step .ensures) (c .before .before .before .step-at .ensures) _ (c .before .sought .given .1))
 
 enum-told : tie.Need-enum-told Inv-loop μ-loop
 enum-told c = search needs
@@ -55,14 +55,14 @@ loop-again c =
     let l = c .before .before .before .before .before .before in
     let s = l .before .before .before in (
       omega (arith, c .before .before .before .before .before .loop-test .taken),
-      rw (add-one (l .loop .k)) (part-goes-on (polygonAt (s .args .slots) (now (s .args .polygons)) (s .args .view .node .polygon)) (s .args .view) (s .args .edge) _ (s .pre .1 .0) (recordAt (now (s .args .route)) (s .args .i)) (l .loop .k) (l .loop .inv .1) (c .before .before .before .before .before .loop-test .taken) _ _ (c .before .before .before .step .ensures) (c .before .before .step-at .ensures) (c .enum-told .given .1)),
+      rw (add-one (l .loop .k)) (part-goes-on (polygonAt (s .args .slots) (now (s .args .polygons)) (s .args .view .polygon)) (s .args .view) (s .args .edge) _ (s .pre .1 .0) (recordAt (now (s .args .route)) (s .args .i)) (l .loop .k) (l .loop .inv .1) (c .before .before .before .before .before .loop-test .taken) _ _ (c .before .before .before .step .ensures) (c .before .before .step-at .ensures) (c .enum-told .given .1)),
     )
 
 returns-2 : tie.Need-returns-2 Inv-loop μ-loop
 returns-2 c =
     let l = c .before in
     let s = l .before .before .before in
-    sym (parts-end (polygonAt (s .args .slots) (now (s .args .polygons)) (s .args .view .node .polygon)) (s .args .view) (s .args .edge) _ (s .pre .1 .0) (recordAt (now (s .args .route)) (s .args .i)) (l .loop .k) (l .loop .inv .1) (omega (arith, c .loop-test .left)))
+    sym (parts-end (polygonAt (s .args .slots) (now (s .args .polygons)) (s .args .view .polygon)) (s .args .view) (s .args .edge) _ (s .pre .1 .0) (recordAt (now (s .args .route)) (s .args .i)) (l .loop .k) (l .loop .inv .1) (omega (arith, c .loop-test .left)))
 
 pub find-on-edge-spec : {M : Type 1} → statement M
 find-on-edge-spec =

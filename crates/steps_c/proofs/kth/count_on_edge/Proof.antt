@@ -11,7 +11,7 @@ use Rattle.steps_c.proofs.kth.count_on_edge.Statement.{statement}
 use Rattle.steps_c.proofs.kth.count_on_edge.Tie as tie
 
 abbrev Inv-loop : tie.InvT-loop
-Inv-loop polygons view edge k walked rest₀ j₀ rest j = (j ≤ walked .count) × Counted-from (polygonAt 8 polygons (view .node .polygon)) view edge walked k rest j
+Inv-loop polygons view edge k walked rest₀ j₀ rest j = (j ≤ walked .count) × Counted-from (polygonAt 8 polygons (view .polygon)) view edge walked k rest j
 
 abbrev μ-loop : tie.MeasureT-loop
 μ-loop polygons view edge k walked rest₀ j₀ rest j = walked .count - j
@@ -40,7 +40,7 @@ returns : tie.Need-returns Inv-loop μ-loop
 returns c =
     let l = c .before .before .before .before .before .before .before in
     let s = l .before .before in
-    sym (part-finds (polygonAt 8 (now (s .args .polygons)) (s .args .view .node .polygon)) (s .args .view) (s .args .edge) _ (s .pre .1) (s .args .k) (l .loop .rest) (l .loop .j) (l .loop .inv .1) (c .before .before .before .before .before .before .loop-test .taken) _ _ (c .before .before .before .before .step .ensures) (c .before .before .before .count-off .ensures) _ (c .before .counted .given .1))
+    sym (part-finds (polygonAt 8 (now (s .args .polygons)) (s .args .view .polygon)) (s .args .view) (s .args .edge) _ (s .pre .1) (s .args .k) (l .loop .rest) (l .loop .j) (l .loop .inv .1) (c .before .before .before .before .before .before .loop-test .taken) _ _ (c .before .before .before .before .step .ensures) (c .before .before .before .count-off .ensures) _ (c .before .counted .given .1))
 
 enum-known-counted-2 : tie.Need-enum-known-counted-2 Inv-loop μ-loop
 enum-known-counted-2 c = search needs
@@ -56,14 +56,14 @@ loop-again c =
     let l = c .before .before .before .before .before .before .before in
     let s = l .before .before in (
       omega (arith, c .before .before .before .before .before .before .loop-test .taken),
-      rw (add-one (l .loop .j)) (part-goes-on (polygonAt 8 (now (s .args .polygons)) (s .args .view .node .polygon)) (s .args .view) (s .args .edge) _ (s .pre .1) (s .args .k) (l .loop .rest) (l .loop .j) (l .loop .inv .1) (c .before .before .before .before .before .before .loop-test .taken) _ _ (c .before .before .before .before .step .ensures) (c .before .before .before .count-off .ensures) _ (c .before .counted2 .given .1)),
+      rw (add-one (l .loop .j)) (part-goes-on (polygonAt 8 (now (s .args .polygons)) (s .args .view .polygon)) (s .args .view) (s .args .edge) _ (s .pre .1) (s .args .k) (l .loop .rest) (l .loop .j) (l .loop .inv .1) (c .before .before .before .before .before .before .loop-test .taken) _ _ (c .before .before .before .before .step .ensures) (c .before .before .before .count-off .ensures) _ (c .before .counted2 .given .1)),
     )
 
 returns-2 : tie.Need-returns-2 Inv-loop μ-loop
 returns-2 c =
     let l = c .before in
     let s = l .before .before in
-    sym (parts-end (polygonAt 8 (now (s .args .polygons)) (s .args .view .node .polygon)) (s .args .view) (s .args .edge) _ (s .pre .1) (s .args .k) (l .loop .rest) (l .loop .j) (l .loop .inv .1) (omega (arith, c .loop-test .left)))
+    sym (parts-end (polygonAt 8 (now (s .args .polygons)) (s .args .view .polygon)) (s .args .view) (s .args .edge) _ (s .pre .1) (s .args .k) (l .loop .rest) (l .loop .j) (l .loop .inv .1) (omega (arith, c .loop-test .left)))
 
 pub count-on-edge-spec : {M : Type 1} → statement M
 count-on-edge-spec =

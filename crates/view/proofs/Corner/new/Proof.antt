@@ -24,23 +24,22 @@ turns-requires c κs = search needs
 lands-on-requires : tie.Need-lands-on-requires
 lands-on-requires c κs = search needs
 
+same-requires : tie.Need-same-requires
+same-requires c κs = search needs
+
 returns : tie.Need-returns
 unfolding cornerOn
 returns c =
-    let c1 = c .before in
-    let c3 = c1 .before .before in
-    let c5 = c3 .before .before .before in
-    rw (vertex-used (c5 .args .slots) (now (c5 .args .vertices)) (now (c5 .args .polygons)) (c5 .args .v) (c5 .pre .0), ← c3 .used-vertex .ensures, ← c1 .lands-on .ensures, c .if1 .taken) (ap (λ (b : Bool). record { at = c3 .used-vertex .result; allowed = b }) (c1 .before .turns .ensures ∙ mark-tells _ (now (c5 .args .marks)) (c5 .args .v) (c5 .pre .2) (omega (arith, c5 .pre .0, c5 .pre .1))))
+    let s = c .before .before .before .before .before .before .before in
+    rw (vertex-used (s .args .slots) (now (s .args .vertices)) (now (s .args .polygons)) (s .args .v) (s .pre .0), ← c .before .before .before .before .used-vertex .ensures, ← c .before .before .lands-on .ensures, ← c .before .same .ensures, c .if1 .taken) (ap (λ (b : Bool). record { allowed = b; keeps = c .before .same .result }) (c .before .before .before .turns .ensures ∙ mark-tells _ (now (s .args .marks)) (s .args .v) (s .pre .2) (omega (arith, s .pre .0, s .pre .1))))
 
 returns-2 : tie.Need-returns-2
 unfolding cornerOn
 returns-2 c =
-    let c1 = c .before in
-    let c3 = c1 .before .before in
-    let c5 = c3 .before .before .before in
-    rw (vertex-used (c5 .args .slots) (now (c5 .args .vertices)) (now (c5 .args .polygons)) (c5 .args .v) (c5 .pre .0), ← c3 .used-vertex .ensures, ← c1 .lands-on .ensures, c .if1 .left)
+    let s = c .before .before .before .before .before .before .before in
+    rw (vertex-used (s .args .slots) (now (s .args .vertices)) (now (s .args .polygons)) (s .args .v) (s .pre .0), ← c .before .before .before .before .used-vertex .ensures, ← c .before .before .lands-on .ensures, ← c .before .same .ensures, c .if1 .left)
 
 pub new-spec : {M : Type 1} → statement M
 new-spec =
     tie.close
-    (tie.spec cast-used-vertex used-vertex-requires cast-turns turns-requires lands-on-requires returns returns-2)
+    (tie.spec cast-used-vertex used-vertex-requires cast-turns turns-requires lands-on-requires same-requires returns returns-2)

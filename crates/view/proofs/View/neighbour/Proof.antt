@@ -15,9 +15,9 @@ neighbour-requires c κs = search needs
 returns : tie.Need-returns
 unfolding neighbourBy
 returns c =
-    let c3 = c .before .before .before in
-    let c4 = c3 .before in
-    rw (← c4 .allows .ensures, c3 .if1 .taken, ← c .neighbour .ensures)
+    let c2 = c .before .before in
+    let c3 = c2 .before in
+    rw (← c3 .allows .ensures, c2 .if1 .taken, ← c .neighbour .ensures)
 
 returns-2 : tie.Need-returns-2
 unfolding neighbourBy

@@ -24,9 +24,9 @@ returns-2 : tie.Need-returns-2
 unfolding stepBy
 returns-2 c =
     let c2 = c .before .before in
-    let c4 = c2 .before .before in
-    let c5 = c4 .before in
-    rw (← c5 .neighbour .ensures, ne-eqb _ _ (c4 .if1 .left), ← c2 .clips .ensures, ← c .over .ensures)
+    let c3 = c2 .before in
+    let c4 = c3 .before in
+    rw (← c4 .neighbour .ensures, ne-eqb _ _ (c3 .if1 .left), ← c2 .clips .ensures, ← c .over .ensures)
 
 pub step-spec : {M : Type 1} → statement M
 step-spec =

@@ -1,0 +1,34 @@
+use borrow.Author.Needs.{needs}
+use Rattle.view.specs.View.{keepsBy}
+use Rattle.view.proofs.View.keeps.Statement.{statement}
+use Rattle.view.proofs.View.keeps.Tie as tie
+
+enum-told : tie.Need-enum-told
+enum-told c = search needs
+
+enum-told-2 : tie.Need-enum-told-2
+enum-told-2 c = search needs
+
+enum-told-3 : tie.Need-enum-told-3
+enum-told-3 c = search needs
+
+returns : tie.Need-returns
+unfolding keepsBy
+returns c = rw (c .enum-told .given .1)
+
+returns-2 : tie.Need-returns-2
+unfolding keepsBy
+returns-2 c =
+    let c1 = c .before in
+    rw (c1 .enum-told2 .given .1)
+
+returns-3 : tie.Need-returns-3
+unfolding keepsBy
+returns-3 c =
+    let c1 = c .before in
+    rw (c1 .enum-told3 .given .1)
+
+pub keeps-spec : {M : Type 1} → statement M
+keeps-spec =
+    tie.close
+    (tie.spec enum-told enum-told-2 enum-told-3 returns returns-2 returns-3)
