@@ -167,28 +167,34 @@ build_beside() { # FOLDER
     build_linked "$1"
 }
 
-# For times, since an emulator's say nothing: on a processor that rt writes no library for, the module that the library was compiled
-# from, compiled once more for this one by the kit's compiler with the same words. The kit's folder is laid again for it, all of it by links
-# but for a compiler that keeps the module.
-library_for_here() { # CRATE
-    local kit laid=$out/kit tools=on/$processor/toolchain path layout
+# The module that a library is compiled from, kept as target/oracle/CRATE.bc. The kit's folder is laid once more for it, all of it by links
+# but for a compiler that keeps what it compiles.
+keep_module() { # CRATE
+    local kit laid=$out/kit tools=on/$processor/toolchain path
     kit=${RATTLE_HOME:-$(dirname "$(dirname "$(readlink -f "$(command -v rt)")")")}
+    clang=$kit/$tools/bin/clang
     rm -rf "$laid"
-    mkdir -p "$laid/$tools/bin" "$out/native"
+    mkdir -p "$laid/$tools/bin"
     for path in $(cd "$kit" && ls -d ./* "on/$processor"/* "$tools"/* "$tools/bin"/*); do
         [ -e "$laid/$path" ] || [ "$path" = "$tools/bin/clang" ] || ln -s "$kit/$path" "$laid/$path"
     done
-    printf '%s\n' '#!/bin/sh' "cp module.bc '$out/$1.bc'" "exec '$kit/$tools/bin/clang' \"\$@\"" >"$laid/$tools/bin/clang"
+    printf '%s\n' '#!/bin/sh' "cp module.bc '$out/$1.bc'" "exec '$clang' \"\$@\"" >"$laid/$tools/bin/clang"
     chmod +x "$laid/$tools/bin/clang"
     RATTLE_HOME=$laid prove_libraries "$1"
-    local clang=$kit/$tools/bin/clang module=$out/native/$1.ll
+}
+
+# For times, since an emulator's say nothing: that module, compiled for this processor by the kit's compiler with the same words.
+library_for_here() { # CRATE
+    local layout module=$out/native/$1.ll here=$processor-unknown-linux-gnu
+    keep_module "$1"
+    mkdir -p "$out/native"
     "$clang" --target=x86_64-unknown-linux-gnu -O0 -Xclang -disable-llvm-passes -S -emit-llvm -x ir "$out/$1.bc" -o "$module"
-    layout=$(echo 'int x;' | "$clang" --target="$processor-unknown-linux-gnu" -S -emit-llvm -x c - -o - | grep '^target datalayout')
-    sed -i "s/^target datalayout.*/$layout/; s/^target triple.*/target triple = \"$processor-unknown-linux-gnu\"/" "$module"
-    "$clang" --target="$processor-unknown-linux-gnu" -ffunction-sections -fdata-sections -mllvm -trap-unreachable \
-        -mllvm -no-trap-after-noreturn -fPIC -O3 -c -x ir "$module" -o "$out/native/$1.o"
+    layout=$(echo 'int x;' | "$clang" --target="$here" -S -emit-llvm -x c - -o - | grep '^target datalayout')
+    sed -i "s/^target datalayout.*/$layout/; s/^target triple.*/target triple = \"$here\"/" "$module"
+    "$clang" --target="$here" -ffunction-sections -fdata-sections -mllvm -trap-unreachable -mllvm -no-trap-after-noreturn \
+        -fPIC -O3 -c -x ir "$module" -o "$out/native/$1.o"
     rm -f "$out/native/lib$1.a"
-    "$kit/$tools/bin/llvm-ar" rcs "$out/native/lib$1.a" "$out/native/$1.o"
+    "$(dirname "$clang")/llvm-ar" rcs "$out/native/lib$1.a" "$out/native/$1.o"
 }
 
 # As build_beside, for this processor itself.
