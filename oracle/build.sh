@@ -190,7 +190,8 @@ library_for_here() { # CRATE
     mkdir -p "$out/native"
     "$clang" --target=x86_64-unknown-linux-gnu -O0 -Xclang -disable-llvm-passes -S -emit-llvm -x ir "$out/$1.bc" -o "$module"
     layout=$(echo 'int x;' | "$clang" --target="$here" -S -emit-llvm -x c - -o - | grep '^target datalayout')
-    sed -i "s/^target datalayout.*/$layout/; s/^target triple.*/target triple = \"$here\"/" "$module"
+    # What names x86-64 goes: how data lies, the processor and its features.
+    sed -E -i "s/^target datalayout.*/$layout/; s/^target triple.*/target triple = \"$here\"/; s/\"(target-cpu|target-features|tune-cpu)\"=\"[^\"]*\"//g" "$module"
     "$clang" --target="$here" -ffunction-sections -fdata-sections -mllvm -trap-unreachable -mllvm -no-trap-after-noreturn \
         -fPIC -O3 -c -x ir "$module" -o "$out/native/$1.o"
     rm -f "$out/native/lib$1.a"
