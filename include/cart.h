@@ -9,12 +9,16 @@
    write to any of it while the call runs. The functions keep nothing between calls, take no heap and do not recurse. All that they
    want of the linker is memcpy and memset.
 
-   Stack, with the arguments, on x86-64: cart_search 2,072 bytes, cart_judge 1,736, cart_read_out 1,912, cart_words 8. That is what
+   geometry.h, which comes with this file, has document 01's geometry, the clip and the walk of one edge; they have libraries of
+   their own.
+
+   Stack, with the arguments, on x86-64: cart_search 1,960 bytes, cart_judge 1,544, cart_read_out 1,720, cart_words 8. That is what
    examples/stack.c measures (docs/DECISIONS.md). */
 
 #ifndef CART_H
 #define CART_H
 
+#include "geometry.h"
 #include <stddef.h>
 #include <stdint.h>
 

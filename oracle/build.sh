@@ -52,8 +52,10 @@ install_c() {
     compiler=x86_64-linux-gnu-gcc
 }
 
-compile() { # PROGRAM SOURCE LIBRARY
-    "$compiler" -std=c99 -O2 -static -Wall -Wextra -Wpedantic -I "$root/include" -o "$1" "$2" "$root/target/staticlib/lib$3.a"
+compile() { # PROGRAM SOURCE CRATE...
+    local program=$1 source=$2
+    shift 2
+    "$compiler" -std=c99 -O2 -static -Wall -Wextra -Wpedantic -I "$root/include" -o "$program" "$source" -L "$root/target/staticlib" "${@/#/-l}"
 }
 
 # Debian 12 has a current compiler under the name rustc-web; later releases have it as rustc.

@@ -43,8 +43,10 @@ struct Bench {
     stored: (Vec<u8>, Vec<u8>),
     mesh: Mesh,
     questions: Vec<(Place, Place)>,
+    /// The route that ours finds for each.
+    routes: Vec<Vec<u8>>,
     /// Nanoseconds of each question, the least yet of what `timed` gives.
-    least: Vec<[f64; 4]>,
+    least: Vec<[f64; 5]>,
 }
 
 impl Bench {
@@ -53,7 +55,8 @@ impl Bench {
         let floor = halls.floor(shape, polygons);
         assert_eq!(floor.refused(), 0);
         let (stored, mesh) = (floor.bytes(), floor.mesh());
-        let mut bench = Bench { shape, floor, stored, mesh, questions: Vec::new(), least: vec![[f64::INFINITY; 4]; QUESTIONS] };
+        let least = vec![[f64::INFINITY; 5]; QUESTIONS];
+        let mut bench = Bench { shape, floor, stored, mesh, questions: Vec::new(), routes: Vec::new(), least };
         while bench.questions.len() < QUESTIONS {
             let ends = (halls.point(&bench.floor), halls.point(&bench.floor));
             bench.draw(ends, lent);
@@ -71,16 +74,18 @@ impl Bench {
             return;
         }
         let asked = ((start, from), (goal, to));
-        let found = self.ours(lent, start, goal).0 == 0 && self.mesh.path_between(asked.0, asked.1).is_some();
-        if found {
+        lent.paint();
+        let told = lent.told(self.lists(), &question(start, goal), BUDGET, &LENT);
+        if told.number == 0 && self.mesh.path_between(asked.0, asked.1).is_some() {
             self.questions.push(asked);
+            self.routes.push(told.route);
         }
     }
 
     /// Once over all questions, so that none finds the processor as its own last call left it.
     fn time(&mut self, lent: &mut Lent) {
         for place in 0..self.questions.len() {
-            let now = timed(self, &self.questions[place], lent);
+            let now = timed(self, place, lent);
             self.least[place].iter_mut().zip(now).for_each(|(least, now)| *least = least.min(now));
         }
     }
@@ -88,14 +93,17 @@ impl Bench {
     /// Over all questions.
     fn times(&self) -> Times {
         let sum = |which: usize| self.least.iter().map(|times| times[which]).sum();
-        Times { ours: sum(0), look: sum(1), ends: sum(2), rusts: sum(3) }
+        Times { ours: sum(0), look: sum(1), ends: sum(2), rusts: sum(3), judge: sum(4) }
     }
 
     /// The number and the counted steps.
     fn asked(&self, lent: &mut Lent, question: &[u8]) -> (u32, usize) {
-        let floor = cart::Floor { vertices: &self.stored.0, polygons: &self.stored.1 };
-        let (answer, steps) = lent.search(floor, question, BUDGET, &LENT);
+        let (answer, steps) = lent.search(self.lists(), question, BUDGET, &LENT);
         (answer.number, steps)
+    }
+
+    fn lists(&self) -> cart::Floor<'_> {
+        cart::Floor { vertices: &self.stored.0, polygons: &self.stored.1 }
     }
 
     fn ours(&self, lent: &mut Lent, start: Vec2, goal: Vec2) -> (u32, usize) {
@@ -113,6 +121,8 @@ struct Times {
     /// The same, and start and goal sought in the polygons.
     ends: f64,
     rusts: f64,
+    /// The judge's whole call on the route that was found.
+    judge: f64,
 }
 
 fn main() {
@@ -131,7 +141,7 @@ fn main() {
     }
     println!("{}", header());
     benches.iter().for_each(|bench| println!("{}", row(bench, &mut lent)));
-    println!("Microseconds a question, nanoseconds a pop and a made node: of each of {QUESTIONS} questions the least of {repetitions} calls.");
+    println!("Microseconds a question, nanoseconds a pop, a made node and a record: of each of {QUESTIONS} questions the least of {repetitions} calls.");
 }
 
 /// The counted steps.
@@ -141,9 +151,9 @@ fn ask_all(bench: &Bench, lent: &mut Lent) -> usize {
 }
 
 fn header() -> String {
-    let columns = ["pops", "made", "whole", "look", "place", "search", "/pop", "/made", "pops", "made", "search", "/pop", "/made", "/pop", "/question"];
+    let columns = ["pops", "made", "whole", "look", "place", "search", "/pop", "/made", "pops", "made", "search", "/pop", "/made", "/pop", "/question", "records", "judge", "/record", ": search"];
     let columns: String = columns.iter().map(|name| format!("{name:>10}")).collect();
-    format!("{:<16}{:>10}{:>80}{:>55}\n{:<16}{columns}", "", "ours", "Rust", "ours : Rust", "polygons")
+    format!("{:<16}{:>10}{:>80}{:>55}{:>21}\n{:<16}{columns}", "", "ours", "Rust", "ours : Rust", "our judge", "polygons")
 }
 
 fn row(bench: &Bench, lent: &mut Lent) -> String {
@@ -159,12 +169,16 @@ fn row(bench: &Bench, lent: &mut Lent) -> String {
     let ours = [a_question(pops), a_question(made), whole, look, ends, alone, each(search, pops), each(search, made)].concat();
     let theirs = [a_question(rusts_pops), a_question(rusts_made), rusts, each(times.rusts, rusts_pops), each(times.rusts, rusts_made)].concat();
     let ratio = (search / pops as f64) / (times.rusts / rusts_pops as f64);
-    format!("{:<16}{ours}{theirs}{ratio:>10.2}{:>10.2}", bench.name(), search / times.rusts)
+    let records: usize = bench.routes.iter().map(|route| route.len() / cart::RECORD_BYTES).sum();
+    let judge = times.judge - times.ends;
+    let judged = [a_question(records), format!("{:>10.2}", judge / count / 1e3), each(judge, records)].concat();
+    format!("{:<16}{ours}{theirs}{ratio:>10.2}{:>10.2}{judged}{:>10.2}", bench.name(), search / times.rusts, judge / search)
 }
 
-/// Nanoseconds of one question: ours, the look, the look with the ends, and the Rust's. Start to start and goal to goal are
-/// one polygon each time, so half of both is the look and the search for the two polygons, and a route of two records.
-fn timed(bench: &Bench, asked: &(Place, Place), lent: &mut Lent) -> [f64; 4] {
+/// Nanoseconds of one question: ours, the look, the look with the ends, the Rust's, and our judge's. Start to start and goal to
+/// goal are one polygon each time, so half of both is the look and the search for the two polygons, and a route of two records.
+fn timed(bench: &Bench, place: usize, lent: &mut Lent) -> [f64; 5] {
+    let asked = &bench.questions[place];
     let ((start, _), (goal, _)) = *asked;
     let short = &question(start, goal)[..15];
     let ours = nanoseconds(|| bench.ours(lent, start, goal));
@@ -172,7 +186,8 @@ fn timed(bench: &Bench, asked: &(Place, Place), lent: &mut Lent) -> [f64; 4] {
     let at_start = nanoseconds(|| bench.ours(lent, start, start));
     let at_goal = nanoseconds(|| bench.ours(lent, goal, goal));
     let rusts = nanoseconds(|| bench.mesh.path_between(asked.0, asked.1));
-    [ours, look, (at_start + at_goal) / 2.0, rusts]
+    let judge = nanoseconds(|| cart::judge(bench.lists(), &question(start, goal), &bench.routes[place]));
+    [ours, look, (at_start + at_goal) / 2.0, rusts, judge]
 }
 
 fn nanoseconds<A>(call: impl FnOnce() -> A) -> f64 {
