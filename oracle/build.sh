@@ -200,19 +200,19 @@ library_for_here() { # CRATE
     "$(dirname "$clang")/llvm-ar" rcs "$out/native/lib$1.a" "$out/native/$1.o"
 }
 
-# As build_beside, for this processor itself.
-build_here() { # FOLDER
+# A program of the workspace over libraries for this processor itself; `program` is where it is.
+build_here() { # PROGRAM CRATE...
+    local name=$1 crate
+    shift
+    emulator=''
     if [ "$processor" = x86_64 ]; then
-        build_beside "$1"
+        prove_libraries "$@"
+        build_linked "$name"
         return
     fi
-    emulator=''
-    install_rust
-    library_for_here cart_c
-    lay_workspace
-    cp -r "$root/$1/src" "$crates/harness/src/bin/$1"
-    STATICLIB=$out/native build --bin "$1"
-    program=$out/cargo/release/$1
+    for crate in "$@"; do library_for_here "$crate"; done
+    STATICLIB=$out/native build --bin "$name"
+    program=$out/cargo/release/$name
 }
 
 # Every instruction of a run, counted one by one: by valgrind on x86-64, elsewhere by the emulator's own trace.

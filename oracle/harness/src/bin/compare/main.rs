@@ -40,7 +40,7 @@ fn main() -> ExitCode {
         program => sum += roots::compare(threads, program),
     }
     if words[1] != "no" {
-        time::print(words.get(2));
+        time::print();
     }
     println!("{} compared, {} differ", sum.compared, sum.differ);
     ExitCode::from((sum.differ != 0) as u8)

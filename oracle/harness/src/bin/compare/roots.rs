@@ -1,5 +1,5 @@
-//! Every root there is, against the processor's own. Those come through a pipe from a program of their own,
-//! since under an emulator this program's root is the emulator's. Each thread takes every so many-th block of 65,536.
+//! Every root there is, against the processor's own. Those come through a pipe from a program of their own, in which nothing else
+//! is. Each thread takes every so many-th block of 65,536.
 
 use std::io::Read;
 use std::process::{Command, Stdio};

@@ -23,13 +23,10 @@ fn nanoseconds(patterns: &[u32], root: impl Fn(u32) -> u32) -> f64 {
 }
 
 /// Prints the time of a call, over positive normal floats of every magnitude alike.
-pub fn print(emulator: Option<&String>) {
+pub fn print() {
     let mut random = Random::new(1);
     let patterns: Vec<u32> = (0..COUNT).map(|_| 0x0080_0000 + random.below(0x7F00_0000) as u32).collect();
     let ours = nanoseconds(&patterns, ours::root);
     let theirs = nanoseconds(&patterns, |bits| f32::from_bits(bits).sqrt().to_bits());
     println!("nanoseconds a call: geometry_root {ours:.1}, f32::sqrt {theirs:.1}");
-    if let Some(emulator) = emulator {
-        println!("Both were measured under an emulator ({emulator}): such a time says nothing of a real board.");
-    }
 }
