@@ -40,6 +40,7 @@ int main(void) {
     wrong += point[0] != one || point[1] != two;
     say("clip of (2,-3),(3,-3)", geometry_clip_to_cone(zero, zero, one, zero, zero, one, two, low, three, low, seen), 0);
     say("root of 2", geometry_root(two), 0x3FB504F3);
-    say("parts of (-4,4)-(4,4)", geometry_walk_edge(zero, zero, one, two, minus, two, bits(-4), four, four, four, 2, walked), 3);
+    say("parts of (4,4)-(-4,4)",
+        geometry_walk_edge(zero, zero, one, two, minus, two, four, four, bits(-4), four, GEOMETRY_RIGHT_NON_OBSERVABLE, walked), 3);
     return wrong ? 1 : 0;
 }
