@@ -159,16 +159,6 @@ build_linked() { # PROGRAM
     program=$out/cargo/x86_64-unknown-linux-gnu/release/$1
 }
 
-# A program that stands in a folder of its own, over the harness and the library cart_c.
-build_beside() { # FOLDER
-    install_rust
-    install_x86
-    prove_libraries cart_c
-    lay_workspace
-    cp -r "$root/$1/src" "$crates/harness/src/bin/$1"
-    build_linked "$1"
-}
-
 # The module that a library is compiled from, kept as target/oracle/CRATE.bc. The kit's folder is laid once more for it, all of it by links
 # but for a compiler that keeps what it compiles.
 keep_module() { # CRATE
@@ -213,6 +203,14 @@ build_here() { # PROGRAM CRATE...
     for crate in "$@"; do library_for_here "$crate"; done
     STATICLIB=$out/native build --bin "$name"
     program=$out/cargo/release/$name
+}
+
+# A program that stands in a folder of its own, over the harness and the library cart_c, for this processor.
+build_beside() { # FOLDER
+    install_rust
+    lay_workspace
+    cp -r "$root/$1/src" "$crates/harness/src/bin/$1"
+    build_here "$1" cart_c
 }
 
 # Every instruction of a run, counted one by one: by valgrind on x86-64, elsewhere by the emulator's own trace.
