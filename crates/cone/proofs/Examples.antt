@@ -7,6 +7,7 @@ use Rattle.float.specs.Units.{unitsOf}
 use Rattle.root.specs.Root.{rootOf, roundedRoot, dropped, nearestRoot, wholeRoot}
 use Rattle.point.specs.declared.Point.{Point}
 use Rattle.point.specs.declared.Segment.{Segment}
+use Rattle.point.specs.Numbers.{0', -0', 1', 2', 3', -3'}
 use Rattle.point.specs.Point.{zero, one, pointOf, fromBitsOf, minusOf, plusOf, timesOf, dotOf, perpDotOf, lengthOf, distanceSquaredOf}
 use Rattle.cone.specs.declared.Cut.the-variants.{Kept}
 use Rattle.cone.specs.declared.Clipped.{Clipped}
@@ -16,24 +17,6 @@ use Rattle.cone.specs.Landing.{landsOnOf}
 use Rattle.cone.proofs.Landing.{4e-6}
 
 -- ---- numbers, as the bit patterns of their f32
-
-abbrev 0' : ℕ
-0' = 0x00000000
-
-abbrev -0' : ℕ
--0' = 0x80000000
-
-abbrev 1' : ℕ
-1' = 0x3F800000
-
-abbrev 2' : ℕ
-2' = 0x40000000
-
-abbrev 3' : ℕ
-3' = 0x40400000
-
-abbrev -3' : ℕ
--3' = 0xC0400000
 
 -- 0.1, and the third float above it
 abbrev tenth : ℕ

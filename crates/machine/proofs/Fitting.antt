@@ -1,7 +1,7 @@
 -- Making nodes leaves the lent buffers as long as they are, and no more records than places are taken. Assumes nothing.
 use Prim.Native.Nat.{ℕ, _+_, _<_}
 use native.Mathlib.Omega.{arith}
-use mathlib.Core.Path.{_≡_, refl}
+use mathlib.Core.Path.{_≡_}
 use mathlib.Core.Bool.{Bool, true, false, cond, _||_}
 use mathlib.Core.List.{List}
 use lib.Dec.{leb, ltb}
@@ -12,14 +12,12 @@ use Rattle.stored.specs.Stored.{Floor}
 use Rattle.route.specs.declared.Step.{Step}
 use Rattle.route.specs.Step.{kindNumber}
 use Rattle.steps.specs.declared.Node.{Node}
-use Rattle.steps.specs.declared.Permitted.{Permitted}
-use Rattle.steps.specs.declared.Permitted.the-variants.{Yes, No}
-use Rattle.steps.specs.Steps.{enter, andThen}
+use Rattle.steps.specs.Steps.{enter}
 use Rattle.queue.proofs.Change.{placed-length}
 use Rattle.machine.specs.declared.Task.{Task}
 use Rattle.machine.specs.declared.Origin.{Origin}
 use Rattle.places.specs.Layout.{fAt, recordFor, putRecord, putDistance, putQueued}
-use Rattle.machine.specs.Search.{State, stateOf, making, tookPlace, tookRecord, recorded, queued, isBeaten, kept, placed, taken, made, madeIf, madeAll}
+use Rattle.machine.specs.Search.{State, stateOf, making, tookPlace, tookRecord, recorded, queued, isBeaten, kept, placed, taken, made}
 use Rattle.machine.specs.Sound.{Fit}
 use Rattle.places.proofs.Rows.{put-floats-length, put-words-length, record-length, distance-length}
 
@@ -87,13 +85,3 @@ module _ (t : Task) where
         go true b = h
         go false true = h
         go false false = fit-taken s o (kindNumber (step .kind)) node value h
-
-    pub fit-made-if : (s : State) (o : Origin) (p : Permitted) → Fit t s → Fit t (madeIf f t s o p .state)
-    fit-made-if s o (Yes step) h = fit-made s o step h
-    fit-made-if s o No h = h
-
-    -- a part's node first, then those of the rest
-    pub made-first : (s : State) (o : Origin) (p : Permitted) (rest : List Step) → madeAll f t s o (andThen p rest) ≡ cond (madeIf f t s o p .full) (madeIf f t s o p) (madeAll f t (madeIf f t s o p .state) o rest)
-    unfolding madeAll
-    made-first s o (Yes step) rest = refl
-    made-first s o No rest = refl

@@ -1,3 +1,4 @@
+pub mod Ends
 pub mod Routes
 pub mod Told
 pub mod Budget

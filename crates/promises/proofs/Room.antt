@@ -4,7 +4,7 @@ use native.Mathlib.Omega.{arith}
 use mathlib.Core.Path.{_≡_, refl, sym, ap, _∙_}
 use mathlib.Core.Bool.{Bool, true, false, cond}
 use mathlib.Core.List.{List, _++_}
-use borrow.Author.Tests.{eqb-false, ltb-true}
+use borrow.Author.Tests.{ltb-true}
 use lib.Dec.{eqb, ltb}
 use lib.ListN.{length, take, drop}
 use Rattle.word.specs.Word.{Bytes}
@@ -20,13 +20,13 @@ use Rattle.machine.specs.declared.Finish.{Finish}
 use Rattle.machine.specs.declared.Finish.the-variants.{Arrived, Emptied, Filled, Stopped}
 use Rattle.machine.specs.declared.Outcome.the-variants.{Ends}
 use Rattle.writing.specs.declared.Answer.the-variants.{Found, NoPlaces, Short}
-use Rattle.places.specs.Layout.{Work, Room, placesIn}
-use Rattle.machine.specs.Search.{Ending, searchedFrom}
+use Rattle.places.specs.Layout.{Work, placesIn}
+use Rattle.machine.specs.Search.{Ending}
 use Rattle.writing.specs.Told.{Told, toldOf, written, routeBytes, straightBytes, finished, told}
 use Rattle.search.specs.Whole.{Searched, searchedOf, ifInside, withWork, routed, betweenOf, searchOf}
 use Rattle.machine.proofs.Kept.{Arrives, Finishes}
-use Rattle.machine.proofs.Begun.{sound-searched}
 use Rattle.search.proofs.Found.{route-long, straight-long}
+use Rattle.promises.proofs.Ends.{taskFor, endFor, at-least-one, sound-end}
 use Rattle.promises.proofs.Told.{search-tells, found-tells, route-fits, route-front}
 
 -- ---- what is written
@@ -49,21 +49,14 @@ module _ (s : ℕ) (vs ps question : List ℕ) (some : 0 < s) (few : s ≤ 16) (
   q = questionOf question
 
   abbrev task : Task
-  task = record { slots = s; goal = q .goal; polygon = to; places = placesIn w }
+  task = taskFor s q to w
 
   abbrev end : Ending
-  end = searchedFrom f task (q .start) from budget w
+  end = endFor s vs ps q from to w budget
 
   module _ (places : eqb (placesIn w) 0 ≡ false) where
-    room : Room (placesIn w) w
-    unfolding placesIn
-    room = record { floats-room = omega arith; words-room = omega arith; queue-room = omega arith; few = omega arith }
-
-    at-least-one : 1 ≤ placesIn w
-    at-least-one = let no-zero = eqb-false (placesIn w) 0 places in omega arith
-
     sound : Finishes vs ps task (seedNode (q .start) from) some few (looked .accepted) end
-    sound = sound-searched vs ps task some few (looked .accepted) (looked .least) (q .start) from (looked .from-listed) w room at-least-one budget
+    sound = sound-end w places s vs ps question some few from to looked budget
 
     by-finish : (finish : Finish) → Arrives vs ps task (seedNode (q .start) from) some few (looked .accepted) (end .state) (Ends finish) → (counted steps : ℕ)
         → finished (end .state .work) (q .start) from (q .goal) finish counted out .answer ≡ Short steps → ⊥
@@ -86,7 +79,7 @@ module _ (s : ℕ) (vs ps question : List ℕ) (some : 0 < s) (few : s ≤ 16) (
         around = finished (end .state .work) (q .start) from (q .goal) (end .finish) (end .state .counts .pops) out
 
         go : (b : Bool) → cond {A = Searched} b (withWork w straight) (withWork (end .state .work) around) .answer ≡ Short steps → ⊥
-        go true e = short-written (straightBytes (q .start) from (q .goal)) (placesIn w) (omega (arith, straight-long vs ps task q refl from, at-least-one)) 0 out steps wide e
+        go true e = short-written (straightBytes (q .start) from (q .goal)) (placesIn w) (omega (arith, straight-long vs ps task q refl from, at-least-one w places)) 0 out steps wide e
         go false e = by-finish (end .finish) (sound .arrives) (end .state .counts .pops) steps e
 
   between-wide : (steps : ℕ) → betweenOf s f q from to budget w out .answer ≡ Short steps → ⊥

@@ -4,7 +4,7 @@ use native.Mathlib.Omega.{arith}
 use mathlib.Core.Path.{_≡_, refl, sym, ap, _∙_, subst}
 use mathlib.Core.Bool.{Bool, true, false, cond}
 use mathlib.Core.List.{List, _++_}
-use borrow.Author.Tests.{eqb-true, eqb-false}
+use borrow.Author.Tests.{eqb-true}
 use lib.Dec.{eqb, ltb}
 use lib.ListN.{length, take, drop}
 use lib.Seq.{take-append-seam}
@@ -28,14 +28,14 @@ use Rattle.machine.specs.declared.Task.{Task}
 use Rattle.machine.specs.declared.Finish.{Finish}
 use Rattle.machine.specs.declared.Finish.the-variants.{Arrived, Emptied, Filled, Stopped}
 use Rattle.writing.specs.declared.Answer.the-variants.{Found, NoPlaces, Short}
-use Rattle.places.specs.Layout.{Work, Room, placesIn}
-use Rattle.machine.specs.Search.{Ending, searchedFrom}
+use Rattle.places.specs.Layout.{Work, placesIn}
+use Rattle.machine.specs.Search.{Ending}
 use Rattle.writing.specs.Told.{Told, toldOf, written, routeBytes, straightBytes, finished, told}
 use Rattle.search.specs.Whole.{Searched, searchedOf, ifInside, withWork, routed, betweenOf, searchOf}
 use Rattle.machine.specs.declared.Outcome.the-variants.{Ends}
 use Rattle.machine.proofs.Kept.{Arrives, Finishes}
-use Rattle.machine.proofs.Begun.{sound-searched}
 use Rattle.search.proofs.Found.{route-is-true, straight-is-true}
+use Rattle.promises.proofs.Ends.{taskFor, endFor, sound-end}
 
 -- ---- what is written
 
@@ -64,22 +64,14 @@ module _ (s : ℕ) (vs ps question : List ℕ) (some : 0 < s) (few : s ≤ 16) (
   world = worldIn f q from to
 
   abbrev task : Task
-  task = record { slots = s; goal = q .goal; polygon = to; places = placesIn w }
+  task = taskFor s q to w
 
   abbrev end : Ending
-  end = searchedFrom f task (q .start) from budget w
+  end = endFor s vs ps q from to w budget
 
   module _ (places : eqb (placesIn w) 0 ≡ false) where
-    -- every place has a row in each buffer
-    room : Room (placesIn w) w
-    unfolding placesIn
-    room = record { floats-room = omega arith; words-room = omega arith; queue-room = omega arith; few = omega arith }
-
-    at-least-one : 1 ≤ placesIn w
-    at-least-one = let no-zero = eqb-false (placesIn w) 0 places in omega arith
-
     sound : Finishes vs ps task (seedNode (q .start) from) some few (looked .accepted) end
-    sound = sound-searched vs ps task some few (looked .accepted) (looked .least) (q .start) from (looked .from-listed) w room at-least-one budget
+    sound = sound-end w places s vs ps question some few from to looked budget
 
     -- however the search ended
     by-finish : (finish : Finish) → Arrives vs ps task (seedNode (q .start) from) some few (looked .accepted) (end .state) (Ends finish) → (counted steps n : ℕ)

@@ -12,6 +12,7 @@ use Rattle.helpers.specs.declared.Crossing.{Crossing}
 use Rattle.helpers.specs.declared.Crossing.the-variants.{At, Nowhere}
 use Rattle.helpers.specs.declared.Turn.{Turn}
 use Rattle.helpers.specs.declared.Turn.the-variants.{Around, Straight}
+use Rattle.point.specs.Numbers.{0', half, 1', 2', 3', 4', -1', -3'}
 use Rattle.point.specs.Point.{fromBitsOf}
 use Rattle.point.specs.Sides.{sideOf}
 use Rattle.helpers.specs.Helpers.{intersectionTimeOf, lineIntersectSegmentOf, heuristicOf, turningPointOf}
@@ -21,30 +22,6 @@ use Rattle.cone.specs.Cone.{clipToConeOf}
 use Rattle.root.specs.Root.{rootOf}
 
 -- ---- numbers, as the bit patterns of their f32
-
-abbrev 0' : ℕ
-0' = 0x00000000
-
-abbrev half : ℕ
-half = 0x3F000000
-
-abbrev 1' : ℕ
-1' = 0x3F800000
-
-abbrev 2' : ℕ
-2' = 0x40000000
-
-abbrev 3' : ℕ
-3' = 0x40400000
-
-abbrev 4' : ℕ
-4' = 0x40800000
-
-abbrev -1' : ℕ
--1' = 0xBF800000
-
-abbrev -3' : ℕ
--3' = 0xC0400000
 
 -- f32 1e-4, and the float below
 abbrev epsilon' : ℕ

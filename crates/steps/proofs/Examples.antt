@@ -4,24 +4,13 @@ use mathlib.Core.Path.{_≡_, refl}
 use mathlib.Core.List.{[], _∷_}
 use lib.Ieee.{add, neg, lt, le, eq, ofBits, odd, size}
 use Rattle.counts.specs.Counts.{first, table}
+use Rattle.point.specs.Numbers.{0', 1', 2', 4'}
 use Rattle.point.specs.Point.{pointOf, fromBitsOf, plusOf, sameOf}
 use Rattle.cut.specs.declared.SuccessorType.the-variants.{Observable}
 use Rattle.stored.specs.Stored.{Floor, unused, corner, neighbour, cornerCount, cornerAfter, polygon, vertex, edge}
 use Rattle.route.specs.declared.Step.{Step}
 use Rattle.steps.specs.declared.Node.{Node}
 use Rattle.steps.specs.Steps.{isFinite, isInterval, wholeEdge, wholeEdges, candidates, isAllowed, clipped, stepOf, stepsOver, stepsFrom, seedNode, enter}
-
-abbrev 0' : ℕ
-0' = 0x00000000
-
-abbrev 1' : ℕ
-1' = 0x3F800000
-
-abbrev 2' : ℕ
-2' = 0x40000000
-
-abbrev 4' : ℕ
-4' = 0x40800000
 
 abbrev U : ℕ
 U = unused

@@ -4,6 +4,7 @@ use mathlib.Core.Path.{_≡_, refl}
 use mathlib.Core.List.{[], _∷_}
 use lib.Ieee.{add, sub, mul, div, neg, lt, le, ofBits, odd, size, round}
 use Rattle.point.specs.declared.Segment.{Segment}
+use Rattle.point.specs.Numbers.{0', 1', 2', 3', 4', 5', -1', -2', -4'}
 use Rattle.point.specs.Point.{pointOf, fromBitsOf, minusOf, plusOf, timesOf, dotOf, perpDotOf, distanceSquaredOf}
 use Rattle.point.specs.Sides.{magnitudeOf, sideOf}
 use Rattle.helpers.specs.Helpers.{intersectionTimeOf, crossesOf, clampOf, lineIntersectSegmentOf}
@@ -13,33 +14,6 @@ use Rattle.walk.specs.Walk.{partOf, restOf, walkEdgeOf}
 use Rattle.walk.specs.Round.{wrapped, cornerOf, edgeOf, afterEntry, edgesFrom, others, walkOf, successorsOf}
 
 -- ---- numbers, as the bit patterns of their f32
-
-abbrev 0' : ℕ
-0' = 0x00000000
-
-abbrev 1' : ℕ
-1' = 0x3F800000
-
-abbrev 2' : ℕ
-2' = 0x40000000
-
-abbrev 3' : ℕ
-3' = 0x40400000
-
-abbrev 4' : ℕ
-4' = 0x40800000
-
-abbrev 5' : ℕ
-5' = 0x40A00000
-
-abbrev -1' : ℕ
--1' = 0xBF800000
-
-abbrev -2' : ℕ
--2' = 0xC0000000
-
-abbrev -4' : ℕ
--4' = 0xC0800000
 
 -- 2 + 2^-11
 abbrev a-hair-past-2' : ℕ
