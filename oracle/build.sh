@@ -190,6 +190,16 @@ library_for_here() { # CRATE
     "$(dirname "$clang")/llvm-ar" rcs "$out/native/lib$1.a" "$out/native/$1.o"
 }
 
+# A C program for this processor itself, for times; `timed` is where it is. On x86-64 that is the one that `compile` made.
+compile_here() { # PROGRAM SOURCE CRATE
+    timed=$1
+    [ "$processor" != x86_64 ] || return 0
+    timed=$1.here
+    install_missing gcc libc6-dev
+    library_for_here "$3"
+    gcc -std=c99 -O2 -Wall -Wextra -Wpedantic -I "$root/include" -o "$timed" "$2" -L "$out/native" "-l$3"
+}
+
 # A program of the workspace over libraries for this processor itself; `program` is where it is.
 build_here() { # PROGRAM CRATE...
     local name=$1 crate
@@ -221,8 +231,4 @@ instructions() { # PROGRAM WORDS...
     else
         "$emulator" -one-insn-per-tb -d exec,nochain "$@" 2>&1 >/dev/null | grep -c '^Trace'
     fi
-}
-
-warn_of_emulator() {
-    [ -z "$emulator" ] || echo "The times were measured under an emulator ($emulator): they say nothing of a real board."
 }

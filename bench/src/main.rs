@@ -24,13 +24,16 @@ const LENT: Lengths = Lengths::of(2047, cart::ROUTE_BYTES);
 const QUESTIONS: usize = 100;
 const SEED: u64 = 0xBE4C_0001;
 
-const FLOORS: [(Shape, usize); 6] = [
+/// The last two have the long routes that the judge is timed on.
+const FLOORS: [(Shape, usize); 8] = [
     (Shape::Triangles, 20),
     (Shape::Mixed, 20),
     (Shape::Triangles, 150),
     (Shape::Mixed, 150),
     (Shape::Triangles, 500),
     (Shape::Mixed, 500),
+    (Shape::Corridor, 400),
+    (Shape::Rings, 500),
 ];
 
 /// A point and its polygon.

@@ -1,15 +1,10 @@
 -- What a search hands to C: the number, the buffers, the counted steps and the value. Rests on `search`'s definition of the search. Assumes nothing.
 use Prim.Native.Nat.{ℕ}
-use mathlib.Core.List.{List, _++_}
-use Rattle.writing.specs.declared.Answer.{Answer}
-use Rattle.writing.specs.Answers.{answerNumber, answerRecord, answerSteps, answerBytes}
+use mathlib.Core.List.{List}
+use Rattle.writing.specs.Answers.{answerNumber, answerSteps}
 use Rattle.places.specs.Layout.{Work}
 use Rattle.search.specs.Whole.{Searched}
-use Rattle.cart_c.specs.Written.{valueWritten}
-
--- "on 0 the bytes written", "4, 5, 6 .. also return the lowest record at fault": one value at most
-unfoldable pub answerValues : Answer → List ℕ
-answerValues answer = answerBytes answer ++ answerRecord answer
+use Rattle.values.specs.Written.{valueWritten, answerValues}
 
 -- all that C sees after the call
 pub record Handed : Type 0 where

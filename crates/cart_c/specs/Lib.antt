@@ -1,3 +1,2 @@
 -- What C is given.
-pub mod Written
 pub mod Handed

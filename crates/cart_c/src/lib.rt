@@ -10,33 +10,8 @@ ghost use Rattle.says.specs.Words.{wordsOf, laid};
 ghost use Rattle.says.specs.At.{atOf};
 ghost use Rattle.places.specs.Layout.{workOf};
 ghost use Rattle.search.specs.Whole.{searchOf};
-ghost use Rattle.writing.specs.Answers.{answerSteps};
-ghost use Rattle.cart_c.specs.Written.{recordWritten, valueWritten};
-ghost use Rattle.cart_c.specs.Handed.{answerValues, handedOf, handedBy};
-use readout::Readout;
-use says::At;
-use search::Answer;
-
-// Writes the record, if there is one.
-fn put(fault: &mut usize, at: At)
-    ensures { λ _. ⌜ now (fault .exit) ≡ recordWritten at (now (fault .entry)) ⌝ }
-{
-    let At::Record(lowest) = at else {
-        return;
-    };
-    *fault = lowest;
-}
-
-// Writes the record at fault, or on 0 how many points are listed. 13 comes with neither.
-fn put_value(value: &mut usize, readout: Readout)
-    ensures { λ _. ⌜ now (value .exit) ≡ valueWritten (readoutValues readout) (now (value .entry)) ⌝ }
-{
-    match readout {
-        Readout::Refused(verdict) => put(value, says::verdict_at(verdict)),
-        Readout::Short => {}
-        Readout::Listed(count) => *value = count,
-    }
-}
+ghost use Rattle.values.specs.Written.{recordWritten, valueWritten};
+ghost use Rattle.cart_c.specs.Handed.{handedOf, handedBy};
 
 // Document 01's number: 0 where the route is accepted, else 2 to 9 or 20 to 23, and the record of 4, 5, 6, 21, 22 and 23.
 #[no_mangle]
@@ -51,7 +26,7 @@ pub extern "C" fn cart_judge(
     ensures { λ _. ⌜ now (fault .exit) ≡ recordWritten (atOf (verdictRecord (verdictOf 8 (now (vertices .entry)) (now (polygons .entry)) (now (question .entry)) (now (route .entry))))) (now (fault .entry)) ⌝ }
 {
     let verdict = judge::judge(vertices, polygons, question, route);
-    put(fault, says::verdict_at(verdict));
+    values::put(fault, says::verdict_at(verdict));
     verdict.number()
 }
 
@@ -71,7 +46,7 @@ pub extern "C" fn cart_read_out(
     ensures { λ _. ⌜ now (value .exit) ≡ valueWritten (readoutValues (readoutOf 8 (now (vertices .entry)) (now (polygons .entry)) (now (question .entry)) (now (route .entry)) (now (points .entry)))) (now (value .entry)) ⌝ }
 {
     let readout = readout::read_out(vertices, polygons, question, route, points);
-    put_value(value, readout);
+    values::put_value(value, readout);
     readout.number()
 }
 
@@ -82,36 +57,6 @@ pub extern "C" fn cart_words(number: u32, room: &mut [u8; 64]) -> usize
     ensures { λ _. ⌜ now (room .exit) ≡ laid (wordsOf number) (now (room .entry)) ⌝ }
 {
     says::words(number, room)
-}
-
-// The counted steps, 0 for 2 to 10.
-fn steps_of(answer: Answer) -> usize
-    ensures { λ r. ⌜ r ≡ answerSteps answer ⌝ }
-{
-    match answer {
-        Answer::Found { steps, bytes: _ } => steps,
-        Answer::NotFound { steps } => steps,
-        Answer::Refused(_) => 0,
-        Answer::NoPlaces => 0,
-        Answer::Full { steps } => steps,
-        Answer::Spent { steps } => steps,
-        Answer::Short { steps } => steps,
-    }
-}
-
-// Writes how long the route is, or the record at fault. No other number comes with a value.
-fn put_found(value: &mut usize, answer: Answer)
-    ensures { λ _. ⌜ now (value .exit) ≡ valueWritten (answerValues answer) (now (value .entry)) ⌝ }
-{
-    match answer {
-        Answer::Found { steps: _, bytes } => *value = bytes,
-        Answer::NotFound { steps: _ } => {}
-        Answer::Refused(refusal) => put(value, says::refusal_at(refusal)),
-        Answer::NoPlaces => {}
-        Answer::Full { steps: _ } => {}
-        Answer::Spent { steps: _ } => {}
-        Answer::Short { steps: _ } => {}
-    }
 }
 
 // The search. Document 01's number: 0 where a route was found, else 1 to 13; the counted steps; and on 0 the bytes written, with
@@ -141,7 +86,7 @@ pub extern "C" fn cart_search(
         tree,
         out,
     );
-    *steps = steps_of(answer);
-    put_found(value, answer);
+    *steps = values::steps_of(answer);
+    values::put_found(value, answer);
     answer.number()
 }

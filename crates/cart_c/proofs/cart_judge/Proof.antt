@@ -3,7 +3,7 @@ use mathlib.Core.Path.{_∙_, ap}
 use borrow.Author.Needs.{needs}
 use Rattle.judge.specs.Verdict.{verdictNumber, verdictRecord}
 use Rattle.says.specs.At.{atOf}
-use Rattle.cart_c.specs.Written.{recordWritten}
+use Rattle.values.specs.Written.{recordWritten}
 use Rattle.cart_c.proofs.cart_judge.Statement.{statement}
 use Rattle.cart_c.proofs.cart_judge.Tie as tie
 

@@ -2,7 +2,7 @@
 use mathlib.Core.Path.{_∙_, ap}
 use borrow.Author.Needs.{needs}
 use Rattle.readout.specs.Readout.{readoutNumber, readoutValues}
-use Rattle.cart_c.specs.Written.{valueWritten}
+use Rattle.values.specs.Written.{valueWritten}
 use Rattle.cart_c.proofs.cart_read_out.Statement.{statement}
 use Rattle.cart_c.proofs.cart_read_out.Tie as tie
 

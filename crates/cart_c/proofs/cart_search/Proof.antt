@@ -7,8 +7,9 @@ use Rattle.writing.specs.declared.Answer.{Answer}
 use Rattle.writing.specs.Answers.{answerNumber, answerSteps}
 use Rattle.places.specs.Layout.{Work}
 use Rattle.search.specs.Whole.{Searched, searchedOf}
-use Rattle.cart_c.specs.Written.{valueWritten}
-use Rattle.cart_c.specs.Handed.{answerValues, handedOf, handedBy}
+use Rattle.values.specs.Written.{valueWritten}
+use Rattle.values.specs.Written.{answerValues}
+use Rattle.cart_c.specs.Handed.{handedOf, handedBy}
 use Rattle.cart_c.proofs.cart_search.Statement.{statement}
 use Rattle.cart_c.proofs.cart_search.Tie as tie
 

@@ -1,9 +1,9 @@
--- `cart_c::put` meets its contract: each arm is the definition's case. Assumes nothing.
+-- `values::put` meets its contract: each arm is the definition's case. Assumes nothing.
 use mathlib.Core.Path.{refl}
 use borrow.Author.Needs.{needs}
-use Rattle.cart_c.specs.Written.{recordWritten}
-use Rattle.cart_c.proofs.put.Statement.{statement}
-use Rattle.cart_c.proofs.put.Tie as tie
+use Rattle.values.specs.Written.{recordWritten}
+use Rattle.values.proofs.put.Statement.{statement}
+use Rattle.values.proofs.put.Tie as tie
 
 enum-known-at : tie.Need-enum-known-at
 enum-known-at c = search needs

@@ -1,12 +1,12 @@
--- `cart_c::put_found` meets its contract: each arm is the definition's case. Assumes nothing.
+-- `values::put_found` meets its contract: each arm is the definition's case. Assumes nothing.
 use mathlib.Core.Path.{refl, _∙_, ap}
 use borrow.Author.Needs.{needs}
 use Rattle.says.specs.At.{atOf}
 use Rattle.writing.specs.Answers.{answerRecord, answerBytes}
-use Rattle.cart_c.specs.Written.{recordWritten, valueWritten}
-use Rattle.cart_c.specs.Handed.{answerValues}
-use Rattle.cart_c.proofs.put_found.Statement.{statement}
-use Rattle.cart_c.proofs.put_found.Tie as tie
+use Rattle.values.specs.Written.{recordWritten, valueWritten}
+use Rattle.values.specs.Written.{answerValues}
+use Rattle.values.proofs.put_found.Statement.{statement}
+use Rattle.values.proofs.put_found.Tie as tie
 
 enum-known-answer : tie.Need-enum-known-answer
 enum-known-answer c = search needs

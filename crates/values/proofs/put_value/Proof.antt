@@ -1,11 +1,11 @@
--- `cart_c::put_value` meets its contract: each arm is the definition's case. Assumes nothing.
+-- `values::put_value` meets its contract: each arm is the definition's case. Assumes nothing.
 use mathlib.Core.Path.{refl, _∙_, ap}
 use borrow.Author.Needs.{needs}
 use Rattle.readout.specs.Readout.{readoutValues}
 use Rattle.says.specs.At.{atOf}
-use Rattle.cart_c.specs.Written.{recordWritten, valueWritten}
-use Rattle.cart_c.proofs.put_value.Statement.{statement}
-use Rattle.cart_c.proofs.put_value.Tie as tie
+use Rattle.values.specs.Written.{recordWritten, valueWritten}
+use Rattle.values.proofs.put_value.Statement.{statement}
+use Rattle.values.proofs.put_value.Tie as tie
 
 enum-known-readout : tie.Need-enum-known-readout
 enum-known-readout c = search needs

@@ -1,8 +1,8 @@
--- `cart_c::steps_of` meets its contract: each arm is the definition's case. Assumes nothing.
+-- `values::steps_of` meets its contract: each arm is the definition's case. Assumes nothing.
 use borrow.Author.Needs.{needs}
 use Rattle.writing.specs.Answers.{answerSteps}
-use Rattle.cart_c.proofs.steps_of.Statement.{statement}
-use Rattle.cart_c.proofs.steps_of.Tie as tie
+use Rattle.values.proofs.steps_of.Statement.{statement}
+use Rattle.values.proofs.steps_of.Tie as tie
 
 enum-known-answer : tie.Need-enum-known-answer
 enum-known-answer c = search needs

@@ -1,0 +1,2 @@
+-- What is told beside a number.
+pub mod Written
