@@ -1,0 +1,87 @@
+-- `says::route_words` meets its contract: the number of each arm picks its words in the definition. Assumes nothing.
+use Prim.Native.Nat.{ℕ}
+use mathlib.Core.Path.{_≡_}
+use native.Mathlib.Omega.{arith}
+use borrow.Author.Needs.{needs}
+use borrow.Author.Tests.{ne-eqb}
+use Rattle.says.specs.Words.{bytesOf, laid, routeWordsOf}
+use Rattle.says.proofs.route_words.Statement.{statement}
+use Rattle.says.proofs.route_words.Tie as tie
+
+-- any other number
+other : (n : ℕ) → (n ≡ 20 → ⊥) → (n ≡ 21 → ⊥) → (n ≡ 22 → ⊥) → (n ≡ 23 → ⊥) → routeWordsOf n ≡ bytesOf "a number with no meaning"
+unfolding routeWordsOf
+other n h20 h21 h22 h23 = rw (ne-eqb n 20 h20, ne-eqb n 21 h21, ne-eqb n 22 h22, ne-eqb n 23 h23)
+
+slice-aggregate-copy : tie.Need-slice-aggregate-copy
+slice-aggregate-copy c = search needs
+
+copy-requires : tie.Need-copy-requires
+copy-requires c κs = search needs
+
+slice-aggregate-copy-2 : tie.Need-slice-aggregate-copy-2
+slice-aggregate-copy-2 c = search needs
+
+copy-requires-2 : tie.Need-copy-requires-2
+copy-requires-2 c κs = search needs
+
+slice-aggregate-copy-3 : tie.Need-slice-aggregate-copy-3
+slice-aggregate-copy-3 c = search needs
+
+copy-requires-3 : tie.Need-copy-requires-3
+copy-requires-3 c κs = search needs
+
+slice-aggregate-copy-4 : tie.Need-slice-aggregate-copy-4
+slice-aggregate-copy-4 c = search needs
+
+copy-requires-4 : tie.Need-copy-requires-4
+copy-requires-4 c κs = search needs
+
+slice-aggregate-copy-5 : tie.Need-slice-aggregate-copy-5
+slice-aggregate-copy-5 c = search needs
+
+copy-requires-5 : tie.Need-copy-requires-5
+copy-requires-5 c κs = search needs
+
+returns : tie.Need-returns
+unfolding routeWordsOf bytesOf laid
+returns c = rw (c .before .before .before .match .keys1) (c .copy .ensures .0, (c .copy .ensures .1, omega (arith, c .copy .ensures .0)))
+
+returns-2 : tie.Need-returns-2
+unfolding routeWordsOf bytesOf laid
+returns-2 c = rw (c .before .before .before .match .keys2) (c .copy2 .ensures .0, (c .copy2 .ensures .1, omega (arith, c .copy2 .ensures .0)))
+
+returns-3 : tie.Need-returns-3
+unfolding routeWordsOf bytesOf laid
+returns-3 c = rw (c .before .before .before .match .keys3) (c .copy3 .ensures .0, (c .copy3 .ensures .1, omega (arith, c .copy3 .ensures .0)))
+
+returns-4 : tie.Need-returns-4
+unfolding routeWordsOf bytesOf laid
+returns-4 c = rw (c .before .before .before .match .keys4) (c .copy4 .ensures .0, (c .copy4 .ensures .1, omega (arith, c .copy4 .ensures .0)))
+
+returns-5 : tie.Need-returns-5
+unfolding bytesOf laid
+returns-5 c =
+    let rest = c .before .before .before .match .rest in
+    rw (other _ (rest .0 .0 .0 .1) (rest .0 .0 .1) (rest .0 .1) (rest .1))
+    (c .copy5 .ensures .0, (c .copy5 .ensures .1, omega (arith, c .copy5 .ensures .0)))
+
+pub route-words-spec : {M : Type 1} → statement M
+route-words-spec =
+    tie.close
+    (tie.spec
+    slice-aggregate-copy
+    copy-requires
+    slice-aggregate-copy-2
+    copy-requires-2
+    slice-aggregate-copy-3
+    copy-requires-3
+    slice-aggregate-copy-4
+    copy-requires-4
+    slice-aggregate-copy-5
+    copy-requires-5
+    returns
+    returns-2
+    returns-3
+    returns-4
+    returns-5)
