@@ -1,0 +1,4 @@
+-- The lines that the programs say.
+pub mod Decimal
+pub mod Line
+pub mod Put
