@@ -1,9 +1,12 @@
-// What the programs share: room for each file, a file or standard input read whole into it, and a verdict said in one line.
+// What the programs share: room for each file, a file or standard input read whole into it, and a verdict, or a search with no
+// route, said in one line.
 
 ghost use mathlib.Core.Path.{_≡_};
 ghost use Prim.Native.Nat.{_≤_, min};
-ghost use lib.ListN.{length};
+ghost use lib.ListN.{length, replicate};
 ghost use Rattle.io.specs.Counts.{Counts};
+ghost use Rattle.says.specs.Words.{wordsOf};
+ghost use Rattle.line.specs.Line.{verdictLine, complaintOf};
 use judge::Verdict;
 use libc::STDERR_FILENO;
 use libc::STDIN_FILENO;
@@ -11,26 +14,30 @@ use libc::STDOUT_FILENO;
 use says::At;
 
 // Room for each file: a byte more than the longest that is allowed, so that a file that is too long has a wrong length here
-// too. Only the length is said, which lending an array as a slice needs.
+// too. The length is said beside the zeros, since lending an array as a slice asks for it.
 pub fn room_for_vertices() -> [u8; 8193]
+    ensures { λ r. ⌜ r ≡ replicate 8193 0 ⌝ }
     ensures { λ r. ⌜ 8193 ≡ length r ⌝ }
 {
     [0; 8193]
 }
 
 pub fn room_for_polygons() -> [u8; 32769]
+    ensures { λ r. ⌜ r ≡ replicate 32769 0 ⌝ }
     ensures { λ r. ⌜ 32769 ≡ length r ⌝ }
 {
     [0; 32769]
 }
 
 pub fn room_for_question() -> [u8; 17]
+    ensures { λ r. ⌜ r ≡ replicate 17 0 ⌝ }
     ensures { λ r. ⌜ 17 ≡ length r ⌝ }
 {
     [0; 17]
 }
 
 pub fn room_for_route() -> [u8; 131105]
+    ensures { λ r. ⌜ r ≡ replicate 131105 0 ⌝ }
     ensures { λ r. ⌜ 131105 ≡ length r ⌝ }
 {
     [0; 131105]
@@ -102,32 +109,35 @@ fn is_over(fd: i32) -> bool {
     libc::read(fd, &mut byte) == 0
 }
 
-// A line on standard output: the number, the record where there is one, and the words, as "22 3 not a permitted step".
-pub fn say(verdict: Verdict) {
-    let number = verdict.number();
-    io::print_decimal(STDOUT_FILENO, number as u64);
-    match says::verdict_at(verdict) {
-        At::Record(record) => say_record(record),
-        At::Nowhere => (),
-    }
-    write_words(STDOUT_FILENO, b" ", number);
+// What is said is a definition, and each function answers how many bytes it has. That they reach the stream can be stated of no
+// function: `io::write_all` promises nothing, since a stream may be closed or full.
+
+// The line of a verdict on standard output, as "22 3 not a permitted step".
+pub fn say(verdict: Verdict) -> usize
+    ensures { λ r. ⌜ r ≡ length (verdictLine verdict) ⌝ }
+{
+    let mut room = [0u8; 128];
+    let n = line::lay_verdict(verdict, &mut room);
+    io::write_all(STDOUT_FILENO, &room[..n]);
+    n
 }
 
-fn say_record(record: usize) {
-    io::write_all(STDOUT_FILENO, b" ");
-    io::print_decimal(STDOUT_FILENO, record as u64);
+// The line of a search with no route on standard error, as "5 at record 1: a polygon's corners are wrong".
+pub fn complain(number: u32, at: At) -> usize
+    ensures { λ r. ⌜ r ≡ length (complaintOf number at) ⌝ }
+{
+    let mut room = [0u8; 128];
+    let n = line::lay_complaint(number, at, &mut room);
+    io::write_all(STDERR_FILENO, &room[..n]);
+    n
 }
 
-// The words for a number, and the end of the line.
-pub fn write_words(fd: i32, before: &[u8], number: u32) {
-    io::write_all(fd, before);
-    put_words(fd, number);
-    io::write_all(fd, b"\n");
-}
-
-// The words for a number.
-pub fn put_words(fd: i32, number: u32) {
+// The words for a number, with no line end.
+pub fn say_words(number: u32) -> usize
+    ensures { λ r. ⌜ r ≡ length (wordsOf number) ⌝ }
+{
     let mut room = [0u8; 64];
     let n = says::words(number, &mut room);
-    io::write_all(fd, &room[..n]);
+    io::write_all(STDOUT_FILENO, &room[..n]);
+    n
 }

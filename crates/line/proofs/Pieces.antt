@@ -1,11 +1,12 @@
 -- How pieces make a line: a text put behind another is put with it. Assumes nothing.
 use Prim.Native.Nat.{ℕ, _+_, _-_, _≤_}
-use mathlib.Core.Path.{_≡_, refl, _∙_}
+use mathlib.Core.Path.{_≡_, refl, ap, sym, _∙_}
 use mathlib.Core.List.{List, [], _++_, append-assoc, append-nil}
 use native.Mathlib.Nat.{add-assoc}
 use native.Mathlib.Omega.{arith}
 use lib.ListN.{length, take, drop, length-append, length-drop, drop-of-length-le, take-append-drop}
 use lib.Seq.{drop-drop, take-length, take-all, take-at, drop-at, length-take-le}
+use Rattle.io.specs.Counts.{Counts}
 use Rattle.says.specs.Words.{laid}
 use Rattle.line.specs.Put.{putAt}
 
@@ -19,10 +20,11 @@ pub front-is : (text before : List ℕ) {n : ℕ} {room : List ℕ} → n ≡ le
 unfolding laid
 front-is text before count front = rw (count, front, take-at text (drop (length text) before) (length text) refl)
 
--- what is laid is no longer than the room
-pub fitting : (text before : List ℕ) {n : ℕ} {room : List ℕ} → n ≡ length text → room ≡ laid text before → (n ≡ length text) × ((room ≡ laid text before) × (n ≤ length room))
+-- what is laid is no longer than the room, and counts its bytes
+pub fitting : (text before : List ℕ) {n : ℕ} {room : List ℕ} → n ≡ length text → room ≡ laid text before → (n ≡ length text) × ((room ≡ laid text before) × Counts n room)
 unfolding laid
-fitting text before count front = (count, (front, rw front (simp length-append (omega (arith, count)))))
+fitting text before count front =
+    (count, (front, (rw front (simp length-append (omega (arith, count))), count ∙ ap length (sym (front-is text before count front)))))
 
 -- no piece
 pub put-nothing : (from : ℕ) (before : List ℕ) → before ≡ putAt from [] before

@@ -3,6 +3,7 @@
 ghost use mathlib.Core.Path.{_≡_};
 ghost use Prim.Native.Nat.{_+_, _≤_};
 ghost use lib.ListN.{length};
+ghost use Rattle.io.specs.Counts.{Counts};
 ghost use Rattle.says.specs.Words.{wordsOf, laid};
 ghost use Rattle.line.specs.Decimal.{decimalOf};
 ghost use Rattle.line.specs.Line.{verdictLine, complaintOf, lineWith, recordPart};
@@ -14,7 +15,7 @@ use says::At;
 pub fn lay_verdict(verdict: Verdict, room: &mut [u8; 128]) -> usize
     ensures { λ r. ⌜ r ≡ length (verdictLine verdict) ⌝ }
     ensures { λ _. ⌜ now (room .exit) ≡ laid (verdictLine verdict) (now (room .entry)) ⌝ }
-    ensures { λ r. ⌜ r ≤ length (now (room .exit)) ⌝ }
+    ensures { λ r. ⌜ Counts r (now (room .exit)) ⌝ }
 {
     let number = verdict.number();
     let at = says::verdict_at(verdict);
@@ -25,7 +26,7 @@ pub fn lay_verdict(verdict: Verdict, room: &mut [u8; 128]) -> usize
 pub fn lay_complaint(number: u32, at: At, room: &mut [u8; 128]) -> usize
     ensures { λ r. ⌜ r ≡ length (complaintOf number at) ⌝ }
     ensures { λ _. ⌜ now (room .exit) ≡ laid (complaintOf number at) (now (room .entry)) ⌝ }
-    ensures { λ r. ⌜ r ≤ length (now (room .exit)) ⌝ }
+    ensures { λ r. ⌜ Counts r (now (room .exit)) ⌝ }
 {
     lay(number, at, b" at record ", b": ", room)
 }

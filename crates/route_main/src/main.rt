@@ -5,7 +5,6 @@
 ghost use mathlib.Core.Path.{_≡_};
 ghost use lib.ListN.{length};
 use floor::Refusal;
-use libc::STDERR_FILENO;
 use libc::STDOUT_FILENO;
 use says::At;
 use search::Answer;
@@ -85,22 +84,10 @@ fn search_files(vertices: &[u8], polygons: &[u8], question: &[u8], out: &mut [u8
 
 // A line on standard error: the number and the words.
 fn complain(number: u32) {
-    io::print_decimal(STDERR_FILENO, number as u64);
-    console::write_words(STDERR_FILENO, b": ", number);
+    console::complain(number, At::Nowhere);
 }
 
 // The same with the record at fault, where there is one.
 fn complain_of(refusal: Refusal) {
-    let number = refusal.number();
-    io::print_decimal(STDERR_FILENO, number as u64);
-    match says::refusal_at(refusal) {
-        At::Record(record) => complain_at(record),
-        At::Nowhere => (),
-    }
-    console::write_words(STDERR_FILENO, b": ", number);
-}
-
-fn complain_at(record: usize) {
-    io::write_all(STDERR_FILENO, b" at record ");
-    io::print_decimal(STDERR_FILENO, record as u64);
+    console::complain(refusal.number(), says::refusal_at(refusal));
 }

@@ -231,7 +231,7 @@ fn say_words(number: u32) {
         io::write_all(STDOUT_FILENO, b"found");
         return;
     }
-    console::put_words(STDOUT_FILENO, number);
+    console::say_words(number);
 }
 
 fn say_whether(same: bool) {

@@ -1,9 +1,9 @@
--- `console::put_words` writes no more than the words. Assumes nothing.
+-- `console::say_words` writes the words and no more. Assumes nothing.
 use mathlib.Core.Path.{sym}
 use lib.Seq.{length-take-le}
 use borrow.Author.Needs.{needs}
-use Rattle.console.proofs.put_words.Statement.{statement}
-use Rattle.console.proofs.put_words.Tie as tie
+use Rattle.console.proofs.say_words.Statement.{statement}
+use Rattle.console.proofs.say_words.Tie as tie
 
 words-requires : tie.Need-words-requires
 words-requires c κs = search needs
@@ -20,8 +20,8 @@ write-all-requires c κs = search needs
 returns : tie.Need-returns
 returns c = search needs
 
-pub put-words-spec : {M : Type 1} → statement M
-put-words-spec =
+pub say-words-spec : {M : Type 1} → statement M
+say-words-spec =
     tie.close
     (tie.spec
     words-requires
