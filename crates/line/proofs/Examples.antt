@@ -6,7 +6,7 @@ use Rattle.judge.specs.declared.Verdict.the-variants.{Read}
 use Rattle.judge.specs.Verdict.{verdictNumber, verdictRecord}
 use Rattle.says.specs.declared.At.the-variants.{Record, Nowhere}
 use Rattle.says.specs.At.{atOf}
-use Rattle.says.specs.Words.{bytesOf, wordsOf}
+use Rattle.says.specs.Words.{bytesOf, wordsOf, floorWordsOf, routeWordsOf}
 use Rattle.line.specs.Decimal.{decimalOf, decimalWithin}
 use Rattle.line.specs.Line.{recordPart, lineWith, lineOf, verdictLine, complaintOf}
 
@@ -19,21 +19,21 @@ unfolding decimalOf decimalWithin bytesOf
 six-digits = refl
 
 pub step-of-record-3 : lineOf 22 (Record 3) ≡ bytesOf "22 3 not a permitted step\n"
-unfolding lineOf lineWith recordPart decimalOf decimalWithin wordsOf bytesOf
+unfolding lineOf lineWith recordPart decimalOf decimalWithin wordsOf floorWordsOf routeWordsOf bytesOf
 step-of-record-3 = refl
 
 pub said-of-a-step : verdictLine (Read (NotStep 3)) ≡ bytesOf "22 3 not a permitted step\n"
-unfolding verdictLine verdictNumber verdictRecord judgedNumber judgedRecord atOf lineOf lineWith recordPart decimalOf decimalWithin wordsOf bytesOf
+unfolding verdictLine verdictNumber verdictRecord judgedNumber judgedRecord atOf lineOf lineWith recordPart decimalOf decimalWithin wordsOf floorWordsOf routeWordsOf bytesOf
 said-of-a-step = refl
 
 pub said-of-a-true-route : verdictLine (Read Accepted) ≡ bytesOf "0 accepted\n"
-unfolding verdictLine verdictNumber verdictRecord judgedNumber judgedRecord atOf lineOf lineWith recordPart decimalOf decimalWithin wordsOf bytesOf
+unfolding verdictLine verdictNumber verdictRecord judgedNumber judgedRecord atOf lineOf lineWith recordPart decimalOf decimalWithin wordsOf floorWordsOf routeWordsOf bytesOf
 said-of-a-true-route = refl
 
 pub complained-of-corners : complaintOf 5 (Record 1) ≡ bytesOf "5 at record 1: a polygon's corners are wrong\n"
-unfolding complaintOf lineWith recordPart decimalOf decimalWithin wordsOf bytesOf
+unfolding complaintOf lineWith recordPart decimalOf decimalWithin wordsOf floorWordsOf routeWordsOf bytesOf
 complained-of-corners = refl
 
 pub complained-of-a-start : complaintOf 8 Nowhere ≡ bytesOf "8: the start is in no polygon\n"
-unfolding complaintOf lineWith recordPart decimalOf decimalWithin wordsOf bytesOf
+unfolding complaintOf lineWith recordPart decimalOf decimalWithin wordsOf floorWordsOf routeWordsOf bytesOf
 complained-of-a-start = refl
