@@ -220,7 +220,7 @@ fn say(answer: Answer) {
     io::write_all(STDOUT_FILENO, b" ");
     say_words(answer.number());
     io::write_all(STDOUT_FILENO, b", steps ");
-    io::print_decimal(STDOUT_FILENO, steps_of(answer) as u64);
+    io::print_decimal(STDOUT_FILENO, values::steps_of(answer) as u64);
     io::write_all(STDOUT_FILENO, b", bytes ");
     io::print_decimal(STDOUT_FILENO, bytes_of(answer) as u64);
 }
@@ -242,19 +242,6 @@ fn say_whether(same: bool) {
     io::write_all(STDOUT_FILENO, b", NOT AS STORED");
 }
 
-// The counted steps: "0 up to 10".
-fn steps_of(answer: Answer) -> usize {
-    match answer {
-        Answer::Found { steps, bytes: _ } => steps,
-        Answer::NotFound { steps } => steps,
-        Answer::Refused(_) => 0,
-        Answer::NoPlaces => 0,
-        Answer::Full { steps } => steps,
-        Answer::Spent { steps } => steps,
-        Answer::Short { steps } => steps,
-    }
-}
-
 // The bytes that were written.
 fn bytes_of(answer: Answer) -> usize {
     match answer {
@@ -272,7 +259,7 @@ fn is_as_stored(stored: Stored, answer: Answer, out: &[u8], route: &[u8]) -> boo
     if answer.number() != stored.number {
         return false;
     }
-    if steps_of(answer) != stored.steps {
+    if values::steps_of(answer) != stored.steps {
         return false;
     }
     if bytes_of(answer) != route.len() {
