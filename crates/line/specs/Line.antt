@@ -1,6 +1,6 @@
 -- The lines that the programs say, as bytes of ASCII: a number of document 01, the record that comes with it, the words. Assumes nothing.
 use Prim.Native.Nat.{ℕ}
-use mathlib.Core.List.{List, [], _∷_, _++_}
+use mathlib.Core.List.{List, [], _++_}
 use Rattle.judge.specs.declared.Verdict.{Verdict}
 use Rattle.judge.specs.Verdict.{verdictNumber, verdictRecord}
 use Rattle.says.specs.declared.At.{At}
