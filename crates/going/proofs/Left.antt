@@ -27,7 +27,7 @@ use Rattle.steps.specs.declared.Permitted.{Permitted}
 use Rattle.steps.specs.declared.Permitted.the-variants.{Yes, No}
 use Rattle.route.specs.declared.Step.{Step}
 use Rattle.steps.specs.Steps.{wholeEdge, wholeEdges, entryOf, successorsIn, candidates, stepOf, andThen, stepsOver}
-use Rattle.going.specs.Going.{wholeOf, walkBy, entryFor, countFor, beginRound, walkedOn, partsOver, leftIn, Yielded, Stands, Goes}
+use Rattle.going.specs.Going.{wholeOf, walkBy, entryFor, countFor, beginRound, walkedAt, walkedOn, partsOver, leftIn, Yielded, Stands, Goes}
 use Rattle.going.proofs.Corners.{edge-in-list, as-many-corners, from, table-is-from}
 use Rattle.going.proofs.Rounds.{by-seed, walk-of-seed, walk-of-node, its-polygon, entry-of-seed, entry-of-node, count-of-seed, count-of-node, more-than-taken}
 
@@ -70,7 +70,7 @@ module _ (s : ℕ) (vs ps : List ℕ) (node : Node) (h : Stands s vs ps node) wh
   -- what the round's edge yields comes first in what is left
   pub left-next : (round : Round) → Goes its node round → isOverOf round ≡ false
       → leftIn f node round ≡ successorsOn (edgeNumberOf round) (partsOf (walkedOn f node round)) ++ leftIn f node (nextOf round (walkedOn f node round .kind))
-  unfolding leftIn walkedOn edgeNumberOf nextOf edgesFrom partsOver
+  unfolding leftIn walkedOn walkedAt edgeNumberOf nextOf edgesFrom partsOver
   left-next round goes on =
       let e : round .count - 1 - round .taken ≡ suc (round .count - 1 - (round .taken + 1)) = omega (arith, more-than-taken s vs ps node h round goes on) in
       rw (e, add-one (round .taken))

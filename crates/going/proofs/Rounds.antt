@@ -9,6 +9,7 @@ use lib.ListN.{length}
 use Rattle.point.specs.declared.Segment.{Segment}
 use Rattle.cut.specs.declared.SuccessorType.{SuccessorType}
 use Rattle.walk.specs.declared.round.Round.{Round}
+use Rattle.walk.specs.declared.Walked.{Walked}
 use Rattle.walk.specs.Walk.{walkEdgeOf, walkedOf, oneOf}
 use Rattle.walk.specs.Turns.{beginOf, isOverOf, edgeNumberOf, nextOf}
 use Rattle.walk.proofs.Laws.{count-is-one-to-three, array-is-of-three, another}
@@ -16,7 +17,7 @@ use Rattle.stored.specs.Stored.{Floor, Polygon, polygonAt, floorOf, cornerCount
 use Rattle.stored.proofs.Records.{polygon-is}
 use Rattle.steps.specs.declared.Node.{Node}
 use Rattle.steps.specs.Steps.{placeOf, entryOf}
-use Rattle.going.specs.Going.{wholeOf, walkBy, entryFor, countFor, beginRound, walkedOn, Yielded, Stands, Turning, Goes}
+use Rattle.going.specs.Going.{wholeOf, walkBy, entryFor, countFor, beginRound, walkedAt, walkedOn, Yielded, Stands, Turning, Goes}
 
 -- ---- a node is the seed, or it is not
 
@@ -60,10 +61,15 @@ module _ (node : Node) (edge : Segment) (kind : SuccessorType) where
       (λ e. rw (walk-of-node e) (array-is-of-three (node .root) (node .interval) edge kind))
 
 pub on-yields : (f : Floor) (node : Node) (round : Round) → Yielded (walkedOn f node round)
-unfolding walkedOn
+unfolding walkedOn walkedAt
 on-yields f node round =
     let on = edge f (node .polygon) (edgeNumberOf round) in
     record { few = one-to-three-on node on (round .kind) .1; three = array-of-three-on node on (round .kind) }
+
+-- what the code walks, by the number of the round's edge
+pub walked-as-on : (f : Floor) (node : Node) (round : Round) {i : ℕ} {w : Walked} → i ≡ edgeNumberOf round → w ≡ walkedAt f node i (round .kind) → w ≡ walkedOn f node round
+unfolding walkedOn
+walked-as-on f node round e d = rw (← e) d
 
 -- ---- round the polygon
 

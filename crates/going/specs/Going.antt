@@ -43,9 +43,13 @@ countFor q node = cond (node .seed) (cornerCount q + 1) (cornerCount q)
 unfoldable pub beginRound : Polygon → Node → Round
 beginRound q node = beginOf (entryFor q node) (countFor q node)
 
+-- what edge i yields
+unfoldable pub walkedAt : Floor → Node → ℕ → SuccessorType → Walked
+walkedAt f node i kind = walkBy node (edge f (node .polygon) i) kind
+
 -- what the round's edge yields
 unfoldable pub walkedOn : Floor → Node → Round → Walked
-walkedOn f node round = walkBy node (edge f (node .polygon) (edgeNumberOf round)) (round .kind)
+walkedOn f node round = walkedAt f node (edgeNumberOf round) (round .kind)
 
 -- ---- what is left
 

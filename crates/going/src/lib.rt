@@ -4,9 +4,9 @@
 ghost use mathlib.Core.Path.{_≡_};
 ghost use Prim.Native.Nat.{_*_, _/_, _≤_, _<_};
 ghost use lib.ListN.{length};
-ghost use Rattle.stored.specs.Stored.{floorOf, polygonAt};
+ghost use Rattle.stored.specs.Stored.{floorOf, polygonAt, cornerCount};
 ghost use Rattle.steps.specs.Steps.{placeOf};
-ghost use Rattle.going.specs.Going.{wholeOf, walkBy, walkedOn, beginRound, Stands, Turning};
+ghost use Rattle.going.specs.Going.{wholeOf, walkBy, walkedAt, beginRound, Stands};
 use cut::SuccessorType;
 use point::Segment;
 use steps::Node;
@@ -57,15 +57,19 @@ pub fn place_of(polygons: &[u8], slots: usize, p: usize, n: usize, v: u32) -> us
     i
 }
 
-// What the walk yields on the round's edge.
-pub fn walk_on(vertices: &[u8], polygons: &[u8], slots: usize, node: Node, round: Round) -> Walked
-    requires { ⌜ Stands slots (now vertices) (now polygons) node ⌝ }
-    requires { ⌜ Turning slots (now polygons) node round ⌝ }
-    ensures { λ r. ⌜ r ≡ walkedOn (floorOf slots (now (vertices .entry)) (now (polygons .entry))) node round ⌝ }
+// What the walk yields on edge i, where kind is what the edge before it left.
+pub fn walk_at(
+    vertices: &[u8],
+    polygons: &[u8],
+    slots: usize,
+    node: Node,
+    i: usize,
+    kind: SuccessorType,
+) -> Walked
+    requires { ⌜ Stands slots (now vertices) (now polygons) node × (i < cornerCount (polygonAt slots (now polygons) (node .polygon))) ⌝ }
+    ensures { λ r. ⌜ r ≡ walkedAt (floorOf slots (now (vertices .entry)) (now (polygons .entry))) node i kind ⌝ }
 {
-    let i = round.edge();
     let edge = edges::edge(vertices, polygons, slots, node.polygon as usize, i);
-    let kind = round.kind;
     walk_by(node, edge, kind)
 }
 

@@ -4,7 +4,9 @@
 ghost use mathlib.Core.Path.{_≡_};
 ghost use Prim.Native.Nat.{_+_, _*_, _/_, _≤_, _<_, _^_};
 ghost use lib.ListN.{length};
-ghost use Rattle.stored.specs.Stored.{floorOf};
+ghost use Rattle.stored.specs.Stored.{floorOf, questionOf};
+ghost use Rattle.floor.specs.declared.Look.the-variants.{Inside};
+ghost use Rattle.floor.specs.Look.{lookOf};
 ghost use Rattle.route.specs.Judge.{judgeOf};
 ghost use Rattle.steps.specs.World.{worldIn};
 ghost use Rattle.judge.specs.Verdict.{asked, endOf, verdictOf, verdictNumber};
@@ -15,7 +17,6 @@ use floor::SLOTS;
 use point::Point;
 use records::Record;
 use route::Judged;
-use route::Sought;
 use steps::Node;
 
 pub mod seek;
@@ -70,14 +71,43 @@ pub fn judge_route(
     let mut node = Node::seed(start, from);
     let mut i = 1;
     while i < last {
-        let sought = seek::find_step(vertices, polygons, slots, marks, node, to, route, i);
-        let Sought::Found(step) = sought else {
+        if !seek::is_step(vertices, polygons, slots, marks, node, to, route, i) {
             return Judged::NotStep(i);
-        };
+        }
+        let step = records::step_in(route, i);
         node = node.enter(vertices, polygons, slots, step);
         i += 1;
     }
     judge_end(node, goal, to, route, last)
+}
+
+// The same below the door: the start and the goal of the question are in these polygons. The marks stand in a function of their own,
+// since what the look at the floor keeps is done with by then, and its room is free.
+fn judge_inside(
+    vertices: &[u8],
+    polygons: &[u8],
+    question: &[u8],
+    route: &[u8],
+    from: u32,
+    to: u32,
+) -> Judged
+    requires { ⌜ lookOf 8 (now vertices) (now polygons) (now question) ≡ Inside from to ⌝ }
+    ensures { λ r. ⌜ r ≡ judgeOf (worldIn (floorOf 8 (now (vertices .entry)) (now (polygons .entry))) (questionOf (now (question .entry))) from to) (now (route .entry)) ⌝ }
+{
+    let marks = edges::turns::turn_vertices(vertices, polygons, SLOTS);
+    let start = stored::question_start(question);
+    let goal = stored::question_goal(question);
+    judge_route(
+        vertices,
+        polygons,
+        SLOTS,
+        &marks,
+        start,
+        goal,
+        from,
+        to,
+        route,
+    )
 }
 
 // 2 to 9, then 20, then the records in order. Nothing is asked of the caller.
@@ -87,20 +117,7 @@ pub fn judge(vertices: &[u8], polygons: &[u8], question: &[u8], route: &[u8]) ->
     let look = floor::look_at(vertices, polygons, question);
     match look {
         Look::Inside(from, to) => {
-            let marks = edges::turns::turn_vertices(vertices, polygons, SLOTS);
-            let start = stored::question_start(question);
-            let goal = stored::question_goal(question);
-            let judged = judge_route(
-                vertices,
-                polygons,
-                SLOTS,
-                &marks,
-                start,
-                goal,
-                from as u32,
-                to as u32,
-                route,
-            );
+            let judged = judge_inside(vertices, polygons, question, route, from as u32, to as u32);
             Verdict::Read(judged)
         }
         Look::Refused(refusal) => Verdict::Refused(refusal),

@@ -294,8 +294,9 @@ pub fn make_steps(
     let mut round = going::begin(polygons, slots, node);
     let mut counts = counts;
     while !round.is_over() {
-        let walked = going::walk_on(vertices, polygons, slots, node, round);
         let edge = round.edge();
+        let kind = round.kind;
+        let walked = going::walk_at(vertices, polygons, slots, node, edge, kind);
         let made = make_edge(
             vertices,
             polygons,
@@ -313,8 +314,8 @@ pub fn make_steps(
             return made;
         }
         counts = made.counts;
-        let kind = walked.kind;
-        round = round.next(kind);
+        let next = walked.kind;
+        round = round.next(next);
     }
     Made {
         counts,

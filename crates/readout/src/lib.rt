@@ -7,6 +7,7 @@ ghost use lib.ListN.{length};
 ghost use lib.Seq.{sets};
 ghost use Rattle.point.specs.Point.{sameOf};
 ghost use Rattle.stored.specs.Stored.{floorOf};
+ghost use Rattle.edges.specs.Where.{marksOf};
 ghost use Rattle.route.specs.declared.Judged.the-variants.{Accepted};
 ghost use Rattle.route.specs.Judge.{judgeOf};
 ghost use Rattle.steps.specs.World.{worldIn};
@@ -21,11 +22,9 @@ use floor::SLOTS;
 use helpers::Turn;
 use judge::Verdict;
 use judge::judge_route;
-use judge::seek;
 use point::Point;
 use records::Record;
 use route::Judged;
-use route::Sought;
 use steps::Node;
 
 // What a read-out answers.
@@ -81,12 +80,12 @@ fn put_last(points: &mut [f32], node: Node, goal: Point)
     }
 }
 
-// The points of a route that was accepted, for which there is room.
+// The points of a route that was accepted, for which there is room. The judge has found every middle record to be a step, so the step is
+// read off it.
 fn list_points(
     vertices: &[u8],
     polygons: &[u8],
     slots: usize,
-    marks: &[u32; 32],
     start: Point,
     goal: Point,
     from: u32,
@@ -94,7 +93,7 @@ fn list_points(
     route: &[u8],
     points: &mut [f32],
 )
-    requires { ⌜ Ready slots (now vertices) (now polygons) (now marks) × (from < length (now polygons) / (slots * 8)) ⌝ }
+    requires { ⌜ Ready slots (now vertices) (now polygons) (marksOf (floorOf slots (now vertices) (now polygons))) × (from < length (now polygons) / (slots * 8)) ⌝ }
     requires { ⌜ judgeOf (worldIn (floorOf slots (now vertices) (now polygons)) (asked start goal) from to) (now route) ≡ Accepted ⌝ }
     requires { ⌜ length (pointsOf (worldIn (floorOf slots (now vertices) (now polygons)) (asked start goal) from to) goal (now route)) * 2 ≤ length (now points) ⌝ }
     ensures { λ _. ⌜ now (points .exit) ≡ sets (now (points .entry)) 0 (floatsOf (pointsOf (worldIn (floorOf slots (now (vertices .entry)) (now (polygons .entry))) (asked start goal) from to) goal (now (route .entry)))) ⌝ }
@@ -103,11 +102,7 @@ fn list_points(
     let mut node = Node::seed(start, from);
     let mut i = 1;
     while i < last {
-        let sought = seek::find_step(vertices, polygons, slots, marks, node, to, route, i);
-        // The judge has found it before.
-        let Sought::Found(step) = sought else {
-            return;
-        };
+        let step = records::step_in(route, i);
         let next = node.enter(vertices, polygons, slots, step);
         put_root(points, node, next);
         node = next;
@@ -129,7 +124,6 @@ fn list_route(
     vertices: &[u8],
     polygons: &[u8],
     slots: usize,
-    marks: &[u32; 32],
     start: Point,
     goal: Point,
     from: u32,
@@ -137,7 +131,7 @@ fn list_route(
     route: &[u8],
     points: &mut [f32],
 ) -> Readout
-    requires { ⌜ Ready slots (now vertices) (now polygons) (now marks) × (from < length (now polygons) / (slots * 8)) ⌝ }
+    requires { ⌜ Ready slots (now vertices) (now polygons) (marksOf (floorOf slots (now vertices) (now polygons))) × (from < length (now polygons) / (slots * 8)) ⌝ }
     requires { ⌜ judgeOf (worldIn (floorOf slots (now vertices) (now polygons)) (asked start goal) from to) (now route) ≡ Accepted ⌝ }
     ensures { λ r. ⌜ r ≡ listed (pointsOf (worldIn (floorOf slots (now (vertices .entry)) (now (polygons .entry))) (asked start goal) from to) goal (now (route .entry))) (now (points .entry)) ⌝ }
     ensures { λ _. ⌜ now (points .exit) ≡ listing (pointsOf (worldIn (floorOf slots (now (vertices .entry)) (now (polygons .entry))) (asked start goal) from to) goal (now (route .entry))) (now (points .entry)) ⌝ }
@@ -150,7 +144,6 @@ fn list_route(
         vertices,
         polygons,
         slots,
-        marks,
         start,
         goal,
         from,
@@ -194,7 +187,6 @@ fn read_route(
             vertices,
             polygons,
             slots,
-            marks,
             start,
             goal,
             from,

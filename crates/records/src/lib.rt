@@ -5,8 +5,10 @@ ghost use Prim.Native.Nat.{_+_, _*_, _≤_};
 ghost use lib.ListN.{length};
 ghost use Rattle.route.specs.Record.{recordAt, putRecord};
 ghost use Rattle.route.specs.Judge.{sameBytes, lengthRight};
-ghost use Rattle.records.specs.Records.{recordBytes, seedRecord, stepRecord, endRecord};
+ghost use Rattle.records.specs.Records.{recordBytes, seedRecord, stepRecord, endRecord, kindIn, pointIn, stepIn};
+use cut::SuccessorType;
 use point::Point;
+use point::Segment;
 use route::Step;
 use route::kind_number;
 
@@ -106,6 +108,50 @@ impl Record {
             word::write(out, i * Record::BYTES + k * 4, words[k]);
             k += 1;
         }
+    }
+}
+
+// The kind that a number stands for. Whoever reads it has to know that it stands for one.
+fn kind_in(number: u32) -> SuccessorType
+    ensures { λ r. ⌜ r ≡ kindIn number ⌝ }
+{
+    if number == 2 {
+        return SuccessorType::Observable;
+    }
+    if number == 3 {
+        return SuccessorType::RightNonObservable;
+    }
+    SuccessorType::LeftNonObservable
+}
+
+// The point whose two coordinates stand here.
+fn point_in(route: &[u8], at: usize) -> Point
+    requires { ⌜ at + 8 ≤ length (now route) ⌝ }
+    ensures { λ r. ⌜ r ≡ pointIn (now (route .entry)) at ⌝ }
+{
+    let x = float::from_bits(word::read(route, at));
+    let y = float::from_bits(word::read(route, at + 4));
+    Point { x, y }
+}
+
+// The step that a record is, where it is one: so a step need not be handed on beside its record.
+pub fn step_in(route: &[u8], i: usize) -> Step
+    requires { ⌜ (i + 1) * 32 ≤ length (now route) ⌝ }
+    ensures { λ r. ⌜ r ≡ stepIn (now (route .entry)) i ⌝ }
+{
+    let at = i * Record::BYTES;
+    let kind = kind_in(word::read(route, at));
+    let polygon = word::read(route, at + 4);
+    let first = word::read(route, at + 8);
+    let second = word::read(route, at + 12);
+    let right = point_in(route, at + 16);
+    let left = point_in(route, at + 24);
+    Step {
+        kind,
+        polygon,
+        first,
+        second,
+        interval: Segment(right, left),
     }
 }
 

@@ -55,7 +55,7 @@ impl Node {
     }
 
     // The root after a step of this kind: the vertex that the way turns at, if it turns.
-    fn root_after(
+    pub fn root_after(
         self,
         vertices: &[u8],
         polygons: &[u8],

@@ -79,14 +79,16 @@ pub fn kth_step(
     let mut round = going::begin(polygons, SLOTS, node);
     let mut left = k;
     while !round.is_over() {
-        let walked = going::walk_on(vertices, polygons, SLOTS, node, round);
-        let counted = count_on_edge(polygons, view, round.edge(), walked, left);
+        let edge = round.edge();
+        let kind = round.kind;
+        let walked = going::walk_at(vertices, polygons, SLOTS, node, edge, kind);
+        let counted = count_on_edge(polygons, view, edge, walked, left);
         match counted {
             Counted::Here(step) => return Permitted::Yes(step),
             Counted::Further(rest) => {
                 left = rest;
-                let kind = walked.kind;
-                round = round.next(kind);
+                let next = walked.kind;
+                round = round.next(next);
             }
         }
     }

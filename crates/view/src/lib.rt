@@ -245,7 +245,7 @@ fn is_finite(point: Point) -> bool
 }
 
 // Equal ends, or an end that is not finite, are no interval to step over.
-fn is_interval(interval: Segment) -> bool
+pub fn is_interval(interval: Segment) -> bool
     ensures { λ r. ⌜ r ≡ isInterval interval ⌝ }
 {
     let right = interval.0;

@@ -13,7 +13,7 @@ use Rattle.cut.specs.declared.SuccessorType.{SuccessorType}
 use Rattle.walk.specs.declared.Part.{Part}
 use Rattle.cut.specs.declared.Cut.{Cut}
 use Rattle.cut.specs.Cut.{firstCutOf, secondCutOf, firstCrossingOf, cutIfOf, nowhereOf, toldApartOf, apartFromBothOf}
-use Rattle.walk.specs.Walk.{partOf, before, behind, cutOr, restOf, walkEdgeOf}
+use Rattle.walk.specs.Walk.{partOf, before, behind, cutOr, restOf, leftOf, walkEdgeOf}
 use Rattle.walk.proofs.All.{All, all-append}
 
 by-side : {A : Type 0} (P : A → Type 0) (side : EdgeSide) (l r e : A) → P l → P r → P e → P (elim side as (λ _. A) [ Left ↦ l | Right ↦ r | Edge ↦ e ])
@@ -98,7 +98,7 @@ module _ (P : Point → Type 0) (sums : (a b : Point) → P (plusOf a b)) where
       ((a, cut-or (second .at) (edge .1) c b), in-behind (second .at) (edge .1) (second .kind) c b)
 
   pub each-end : (root : Point) (interval edge : Segment) (kind : SuccessorType) → P (edge .0) → P (edge .1) → All BothEnds (walkEdgeOf root interval edge kind .parts)
-  unfolding walkEdgeOf
+  unfolding walkEdgeOf leftOf
   each-end root interval edge kind a b =
       let first = firstCutOf (root, interval .0) edge kind in
       let c = first-cut (root, interval .0) edge kind in

@@ -10,7 +10,7 @@ use Rattle.point.specs.Sides.{magnitudeOf, sideOf}
 use Rattle.helpers.specs.Helpers.{intersectionTimeOf, crossesOf, clampOf, lineIntersectSegmentOf}
 use Rattle.cut.specs.declared.SuccessorType.the-variants.{LeftNonObservable, Observable, RightNonObservable}
 use Rattle.cut.specs.Cut.{toldApartOf, apartFromBothOf, cutIfOf, seenIfOf, nowhereOf, firstCrossingOf, seenFromRightOf, unlessRightOf, firstCutOf, secondCutOf}
-use Rattle.walk.specs.Walk.{partOf, restOf, walkEdgeOf}
+use Rattle.walk.specs.Walk.{partOf, restOf, leftOf, walkEdgeOf}
 use Rattle.walk.specs.Round.{wrapped, cornerOf, edgeOf, afterEntry, edgesFrom, others, walkOf, successorsOf}
 
 -- ---- numbers, as the bit patterns of their f32
@@ -32,7 +32,7 @@ pub three-parts : walkEdgeOf (fromBitsOf 0' 0') (line 1' 2' -1' 2') (line 4' 4' 
       ∷ [];
   kind = LeftNonObservable;
 }
-unfolding walkEdgeOf restOf firstCutOf secondCutOf firstCrossingOf toldApartOf apartFromBothOf cutIfOf seenIfOf nowhereOf seenFromRightOf unlessRightOf partOf sideOf lineIntersectSegmentOf intersectionTimeOf magnitudeOf crossesOf clampOf pointOf fromBitsOf minusOf plusOf timesOf dotOf perpDotOf distanceSquaredOf add sub mul div neg lt le ofBits odd size round
+unfolding walkEdgeOf leftOf restOf firstCutOf secondCutOf firstCrossingOf toldApartOf apartFromBothOf cutIfOf seenIfOf nowhereOf seenFromRightOf unlessRightOf partOf sideOf lineIntersectSegmentOf intersectionTimeOf magnitudeOf crossesOf clampOf pointOf fromBitsOf minusOf plusOf timesOf dotOf perpDotOf distanceSquaredOf add sub mul div neg lt le ofBits odd size round
 three-parts = refl
 
 -- (2 + 2^-11,4)-(0,4): the right ray's cut at (2,4) is too near to the start to make an interval, and what comes behind it is seen all the same
@@ -40,7 +40,7 @@ pub passed-over : walkEdgeOf (fromBitsOf 0' 0') (line 1' 2' -1' 2') (line a-hair
   parts = partOf (fromBitsOf a-hair-past-2' 4') (fromBitsOf 0' 4') Observable ∷ [];
   kind = Observable;
 }
-unfolding walkEdgeOf restOf firstCutOf secondCutOf firstCrossingOf toldApartOf apartFromBothOf cutIfOf seenIfOf nowhereOf seenFromRightOf unlessRightOf partOf sideOf lineIntersectSegmentOf intersectionTimeOf magnitudeOf crossesOf clampOf pointOf fromBitsOf minusOf plusOf timesOf dotOf perpDotOf distanceSquaredOf add sub mul div neg lt le ofBits odd size round
+unfolding walkEdgeOf leftOf restOf firstCutOf secondCutOf firstCrossingOf toldApartOf apartFromBothOf cutIfOf seenIfOf nowhereOf seenFromRightOf unlessRightOf partOf sideOf lineIntersectSegmentOf intersectionTimeOf magnitudeOf crossesOf clampOf pointOf fromBitsOf minusOf plusOf timesOf dotOf perpDotOf distanceSquaredOf add sub mul div neg lt le ofBits odd size round
 passed-over = refl
 
 -- ---- round a polygon
@@ -53,5 +53,5 @@ pub back-to-seen : successorsOf (fromBitsOf 0' 4') (line 0' 2' 1' 3') (fromBitsO
     ∷ record { edge = 2; part = partOf (fromBitsOf 3' 1') (fromBitsOf 0' 5') LeftNonObservable }
     ∷ record { edge = 3; part = partOf (fromBitsOf 0' 5') (fromBitsOf 1' 3') Observable }
     ∷ []
-unfolding successorsOf others edgesFrom afterEntry wrapped edgeOf cornerOf walkOf walkEdgeOf restOf firstCutOf secondCutOf firstCrossingOf toldApartOf apartFromBothOf cutIfOf seenIfOf nowhereOf seenFromRightOf unlessRightOf partOf sideOf lineIntersectSegmentOf intersectionTimeOf magnitudeOf crossesOf clampOf pointOf fromBitsOf minusOf plusOf timesOf dotOf perpDotOf distanceSquaredOf add sub mul div neg lt le ofBits odd size round
+unfolding successorsOf others edgesFrom afterEntry wrapped edgeOf cornerOf walkOf walkEdgeOf leftOf restOf firstCutOf secondCutOf firstCrossingOf toldApartOf apartFromBothOf cutIfOf seenIfOf nowhereOf seenFromRightOf unlessRightOf partOf sideOf lineIntersectSegmentOf intersectionTimeOf magnitudeOf crossesOf clampOf pointOf fromBitsOf minusOf plusOf timesOf dotOf perpDotOf distanceSquaredOf add sub mul div neg lt le ofBits odd size round
 back-to-seen = refl

@@ -19,7 +19,7 @@ use Rattle.cut.specs.declared.SuccessorType.the-variants.{RightNonObservable}
 use Rattle.walk.specs.declared.Part.{Part}
 use Rattle.cut.specs.declared.Cut.{Cut}
 use Rattle.cut.specs.Cut.{firstCutOf, secondCutOf}
-use Rattle.walk.specs.Walk.{Walk, partOf, before, behind, cutOr, restOf, walkEdgeOf, oneOf, twoOf, threeOf, held, walkedOf, partsOf, noPart, partAt}
+use Rattle.walk.specs.Walk.{Walk, partOf, before, behind, cutOr, restOf, leftOf, walkEdgeOf, oneOf, twoOf, threeOf, held, walkedOf, partsOf, noPart, partAt}
 use Rattle.walk.specs.Round.{wrapped, edgeOf, afterEntry, edgesFrom, others, walkOf, successorsOf}
 use Rattle.walk.proofs.Wrap.{wrapped-cases, up-to-the-last, from-the-first, length-edges, edge-at}
 
@@ -73,22 +73,22 @@ module _ (root : Point) (interval edge : Segment) (kind : SuccessorType) where
 
   -- 01, The walk: "Each edge yields one to three intervals;"
   pub one-to-three : (1 ≤ length parts) × (length parts ≤ 3)
-  unfolding walkEdgeOf restOf
+  unfolding walkEdgeOf leftOf restOf
   one-to-three = laid-count (edge .0) (edge .1) kind (first .kind) (second .kind) (first .at) (second .at)
 
   -- "the first begins at its start corner,"
   pub begins-at-start : (partAt parts 0) .interval .0 ≡ edge .0
-  unfolding walkEdgeOf restOf
+  unfolding walkEdgeOf leftOf restOf
   begins-at-start = laid-begins (edge .0) (edge .1) kind (first .kind) (second .kind) (first .at) (second .at)
 
   -- "each next where the last ended,"
   pub each-where-the-last-ended : (i : ℕ) → suc i < length parts → (partAt parts (suc i)) .interval .0 ≡ (partAt parts i) .interval .1
-  unfolding walkEdgeOf restOf
+  unfolding walkEdgeOf leftOf restOf
   each-where-the-last-ended = laid-joins (edge .0) (edge .1) kind (first .kind) (second .kind) (first .at) (second .at)
 
   -- "and the final one ends at its end corner."
   pub ends-at-end : (partAt parts (length parts - 1)) .interval .1 ≡ edge .1
-  unfolding walkEdgeOf restOf
+  unfolding walkEdgeOf leftOf restOf
   ends-at-end = laid-ends (edge .0) (edge .1) kind (first .kind) (second .kind) (first .at) (second .at)
 
 -- ---- in the array with its count

@@ -11,6 +11,7 @@ use Rattle.helpers.specs.declared.Crossing.{Crossing}
 use Rattle.helpers.specs.declared.Crossing.the-variants.{At, Nowhere}
 use Rattle.cut.specs.declared.SuccessorType.{SuccessorType}
 use Rattle.cut.specs.declared.SuccessorType.the-variants.{LeftNonObservable}
+use Rattle.cut.specs.declared.Cut.{Cut}
 use Rattle.cut.specs.Cut.{firstCutOf, secondCutOf}
 use Rattle.walk.specs.declared.Part.{Part}
 use Rattle.walk.specs.declared.Walked.{Walked}
@@ -41,22 +42,27 @@ abbrev pub behind : Crossing → Point → SuccessorType → List Part
 behind (At cut) end kind = partOf cut end kind ∷ []
 behind Nowhere end kind = []
 
--- successors.push(Successor { interval: (start_point, end_intersection_p.unwrap_or(end_point)), .. }); and, with the kind that is next, what lies behind the second cut
-unfoldable pub restOf : Segment → Segment → Segment → SuccessorType → Walk
-restOf left right edge kind =
-    let second = secondCutOf left right edge kind in
-    record {
-      parts = partOf (edge .0) (cutOr (second .at) (edge .1)) kind ∷ behind (second .at) (edge .1) (second .kind);
-      kind = second .kind;
-    }
+-- the first cut, where there is one, is start_point from then on
+unfoldable pub leftOf : Crossing → Segment → Segment
+leftOf at edge = (cutOr at (edge .0), edge .1)
 
--- the right ray is (node.root, node.interval.0), the left ray (node.root, node.interval.1); the first cut, where there is one, is start_point from then on
+-- successors.push(Successor { interval: (start_point, end_intersection_p.unwrap_or(end_point)), .. }); and, with the kind that is next, what lies behind the second cut
+abbrev pub restBy : Cut → Segment → SuccessorType → Walk
+restBy second edge kind = record {
+  parts = partOf (edge .0) (cutOr (second .at) (edge .1)) kind ∷ behind (second .at) (edge .1) (second .kind);
+  kind = second .kind;
+}
+
+unfoldable pub restOf : Segment → Segment → Segment → SuccessorType → Walk
+restOf left right edge kind = restBy (secondCutOf left right edge kind) edge kind
+
+-- the right ray is (node.root, node.interval.0), the left ray (node.root, node.interval.1)
 unfoldable pub walkEdgeOf : Point → Segment → Segment → SuccessorType → Walk
 walkEdgeOf root interval edge kind =
     let right : Segment = (root, interval .0) in
     let left : Segment = (root, interval .1) in
     let first = firstCutOf right edge kind in
-    let rest = restOf left right (cutOr (first .at) (edge .0), edge .1) (first .kind) in
+    let rest = restOf left right (leftOf (first .at) edge) (first .kind) in
     record { parts = before (first .at) (edge .0) kind ++ rest .parts; kind = rest .kind }
 
 -- ---- in a fixed array with a count

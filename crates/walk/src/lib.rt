@@ -3,7 +3,8 @@
 
 ghost use mathlib.Core.Path.{_≡_};
 ghost use mathlib.Core.List.{_∷_};
-ghost use Rattle.walk.specs.Walk.{partOf, oneOf, twoOf, threeOf, walkedOf, held, restOf, walkEdgeOf};
+ghost use Rattle.walk.specs.Walk.{partOf, oneOf, twoOf, threeOf, walkedOf, held, leftOf, restBy, walkEdgeOf};
+use cut::Cut;
 use cut::SuccessorType;
 use helpers::Crossing;
 use point::Point;
@@ -70,11 +71,23 @@ impl Walked {
     }
 }
 
-// The parts of an edge that the right ray has not cut.
-fn uncut(left: Segment, right: Segment, edge: Segment, kind: SuccessorType) -> Walked
-    ensures { λ r. ⌜ r ≡ walkedOf (restOf left right edge kind) ⌝ }
+// What the right ray leaves of an edge: what is behind its cut, or all of it.
+fn left_of(at: Crossing, edge: Segment) -> Segment
+    ensures { λ r. ⌜ r ≡ leftOf at edge ⌝ }
 {
-    let second = cut::second_cut(left, right, edge, kind);
+    match at {
+        Crossing::At(cut) => {
+            let end = edge.1;
+            Segment(cut, end)
+        }
+        Crossing::Nowhere => edge,
+    }
+}
+
+// The parts of an edge that the right ray has not cut, by what the left ray does to it.
+fn uncut(second: Cut, edge: Segment, kind: SuccessorType) -> Walked
+    ensures { λ r. ⌜ r ≡ walkedOf (restBy second edge kind) ⌝ }
+{
     let at = second.at;
     let next = second.kind;
     match at {
@@ -88,16 +101,9 @@ fn uncut(left: Segment, right: Segment, edge: Segment, kind: SuccessorType) -> W
 }
 
 // The same of what the right ray has left of an edge, with the part before its cut.
-fn cut_before(
-    before: Part,
-    left: Segment,
-    right: Segment,
-    edge: Segment,
-    kind: SuccessorType,
-) -> Walked
-    ensures { λ r. ⌜ r ≡ held (before ∷ (restOf left right edge kind) .parts) ((restOf left right edge kind) .kind) ⌝ }
+fn cut_before(before: Part, second: Cut, edge: Segment, kind: SuccessorType) -> Walked
+    ensures { λ r. ⌜ r ≡ held (before ∷ (restBy second edge kind) .parts) ((restBy second edge kind) .kind) ⌝ }
 {
-    let second = cut::second_cut(left, right, edge, kind);
     let at = second.at;
     let next = second.kind;
     match at {
@@ -121,12 +127,13 @@ pub fn walk_edge(root: Point, interval: Segment, edge: Segment, kind: SuccessorT
     let first = cut::first_cut(right, edge, kind);
     let at = first.at;
     let seen = first.kind;
+    let rest = left_of(at, edge);
+    let second = cut::second_cut(left, right, rest, seen);
     match at {
         Crossing::At(cut) => {
             let before = Part::new(edge.0, cut, kind);
-            let end = edge.1;
-            cut_before(before, left, right, Segment(cut, end), seen)
+            cut_before(before, second, rest, seen)
         }
-        Crossing::Nowhere => uncut(left, right, edge, seen),
+        Crossing::Nowhere => uncut(second, rest, seen),
     }
 }

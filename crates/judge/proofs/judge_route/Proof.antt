@@ -1,19 +1,21 @@
 -- `judge_route` meets its contract. The loop's invariant: the records so far lead to the node, and what is left to judge is the rest. Assumes nothing.
 use Prim.Native.Nat.{ℕ, _-_, _/_, _≤_, _<_}
 use native.Mathlib.Omega.{arith}
-use mathlib.Core.Path.{_≡_, refl, sym, _∙_, subst}
+use mathlib.Core.Path.{_≡_, refl, sym, ap, _∙_, subst}
 use mathlib.Core.Bool.{true}
 use lib.ListN.{length}
-use borrow.Author.Needs.{needs}
 use borrow.Author.Tests.{not-true, not-false}
 use denote.Ref.{now}
+use Rattle.word.specs.Word.{Bytes}
 use Rattle.stored.specs.Stored.{floorOf}
 use Rattle.route.specs.Record.{recordAt}
 use Rattle.route.specs.Judge.{lengthRight}
 use Rattle.route.proofs.Turns.{length-gives, begins-length, begins-wrong}
 use Rattle.records.proofs.Stored.{seed-tested}
+use Rattle.steps.specs.Steps.{enter}
 use Rattle.steps.specs.World.{worldIn}
 use Rattle.judge.specs.Verdict.{asked}
+use Rattle.judge.proofs.Reading.{is-found, is-missing}
 use Rattle.judge.proofs.Following.{Follows, follows-begin, follows-on, follows-stops, follows-ends}
 use Rattle.judge.proofs.judge_route.Statement.{statement}
 use Rattle.judge.proofs.judge_route.Tie as tie
@@ -23,6 +25,13 @@ Inv-loop vertices polygons slots marks goal from to route last node₀ i₀ node
 
 abbrev μ-loop : tie.MeasureT-loop
 μ-loop vertices polygons slots marks goal from to route last node₀ i₀ node i = last - i
+
+-- what the loop's place knows of the slices: all are bytes
+bytes-of : (c : tie.At-loop Inv-loop μ-loop) → Bytes (now (c .before .before .before .before .before .before .before .before .before .before .args .route))
+bytes-of c = λ n. c .before .before .before .before .before .before .before .shared-slice-known3 .given n .fits
+
+floor-bytes-of : (c : tie.At-loop Inv-loop μ-loop) → Bytes (now (c .before .before .before .before .before .before .before .before .before .before .args .polygons))
+floor-bytes-of c = λ n. c .before .before .before .before .before .before .before .before .shared-slice-known2 .given n .fits
 
 length-right-requires : tie.Need-length-right-requires Inv-loop μ-loop
 length-right-requires c κs = tt
@@ -63,49 +72,46 @@ loop-holds c =
     let right : lengthRight (now (s .args .route)) ≡ true = sym (c .before .before .before .before .before .length-right .ensures) ∙ not-false _ (c .before .before .before .before .if1 .left) in
     (follows-begin (s .args .slots) (now (s .args .vertices)) (now (s .args .polygons)) (now (s .args .marks)) (s .pre .0) (s .args .goal) (s .args .from) (s .args .to) (now (s .args .route)) (s .args .start) (c .seed2 .result) (s .pre .1) right (c .seed2 .ensures), refl)
 
-find-step-requires : tie.Need-find-step-requires Inv-loop μ-loop
-find-step-requires c κs =
+is-step-requires : tie.Need-is-step-requires Inv-loop μ-loop
+is-step-requires c κs =
     let s = c .before .before .before .before .before .before .before .before .before .before .before in
     let h = c .before .loop .inv .0 in
     (h .stands, (s .pre .0 .most, s .pre .0 .marked, omega (arith, h .inside, c .before .loop .inv .1, c .loop-test .taken)))
 
-enum-known-sought : tie.Need-enum-known-sought Inv-loop μ-loop
-enum-known-sought c = search needs
-
-enum-told : tie.Need-enum-told Inv-loop μ-loop
-enum-told c = search needs
-
 returns-3 : tie.Need-returns-3 Inv-loop μ-loop
 returns-3 c =
-    let l = c .before .before .before .before in
+    let l = c .before .before .before in
     let s = l .before .before .before .before .before .before .before .before .before .before in
-    let under : l .loop .i < length (now (s .args .route)) / 32 - 1 = subst (λ (n : ℕ). l .loop .i < n) (l .loop .inv .1) (c .before .before .before .loop-test .taken) in
+    let under : l .loop .i < length (now (s .args .route)) / 32 - 1 = subst (λ (n : ℕ). l .loop .i < n) (l .loop .inv .1) (c .before .before .loop-test .taken) in
     let right : lengthRight (now (s .args .route)) ≡ true = sym (l .before .before .before .before .before .before .length-right .ensures) ∙ not-false _ (l .before .before .before .before .before .if1 .left) in
     let seeded = seed-tested (recordAt (now (s .args .route)) 0) (s .args .from) (s .args .start) (l .before .before .before .before .seed .ensures) (l .before .before .before .is-at .ensures) ∙ not-false _ (l .before .before .if2 .left) in
-    sym (follows-stops (s .args .slots) (now (s .args .vertices)) (now (s .args .polygons)) (now (s .args .marks)) (s .pre .0) (s .args .goal) (s .args .from) (s .args .to) (now (s .args .route)) _ (l .loop .node) (l .loop .i) (l .loop .inv .0) (s .args .start) right seeded (l .before .seed2 .ensures) under (sym (c .before .before .find-step .ensures) ∙ c .enum-told .given .1))
+    sym (follows-stops (s .args .slots) (now (s .args .vertices)) (now (s .args .polygons)) (now (s .args .marks)) (s .pre .0) (s .args .goal) (s .args .from) (s .args .to) (now (s .args .route)) _ (l .loop .node) (l .loop .i) (l .loop .inv .0) (s .args .start) right seeded (l .before .seed2 .ensures) under (is-missing (now (s .args .route)) (bytes-of l) (l .loop .i) (omega (arith, l .loop .inv .0 .inside, l .loop .inv .1, c .before .before .loop-test .taken)) (s .args .slots) (now (s .args .vertices)) (now (s .args .polygons)) (floor-bytes-of l) (s .args .to) (l .loop .node) (sym (c .before .is-step .ensures) ∙ not-true _ (c .if3 .taken))))
+
+step-in-requires : tie.Need-step-in-requires Inv-loop μ-loop
+step-in-requires c κs = omega (arith, c .before .before .before .loop .inv .0 .inside, c .before .before .before .loop .inv .1, c .before .before .loop-test .taken)
 
 enter-requires : tie.Need-enter-requires Inv-loop μ-loop
 enter-requires c κs =
-    let l = c .before .before .before .before .before in
+    let l = c .before .before .before .before in
     let s = l .before .before .before .before .before .before .before .before .before .before in
     let h = l .loop .inv .0 in
     (h .stands .first-listed, h .stands .second-listed, omega (arith, h .points, h .upto, h .few))
 
 add-i : tie.Need-add-i Inv-loop μ-loop
 add-i c =
-    let l = c .before .before .before .before .before .before in
+    let l = c .before .before .before .before .before in
     let s = l .before .before .before .before .before .before .before .before .before .before in
     omega (arith, l .loop .inv .0 .upto, l .loop .inv .0 .few)
 
 loop-less : tie.Need-loop-less Inv-loop μ-loop
-loop-less c = omega (arith, c .before .before .before .before .before .loop-test .taken)
+loop-less c = omega (arith, c .before .before .before .before .loop-test .taken)
 
 loop-again : tie.Need-loop-again Inv-loop μ-loop
 loop-again c =
-    let l = c .before .before .before .before .before .before in
+    let l = c .before .before .before .before .before in
     let s = l .before .before .before .before .before .before .before .before .before .before in
-    let under : l .loop .i < length (now (s .args .route)) / 32 - 1 = subst (λ (n : ℕ). l .loop .i < n) (l .loop .inv .1) (c .before .before .before .before .before .loop-test .taken) in
-    (follows-on (s .args .slots) (now (s .args .vertices)) (now (s .args .polygons)) (now (s .args .marks)) (s .pre .0) (s .args .goal) (s .args .from) (s .args .to) (now (s .args .route)) _ (l .loop .node) (l .loop .i) (l .loop .inv .0) _ _ under (sym (c .before .before .before .before .find-step .ensures) ∙ c .before .before .sought .given .1) (c .enter .ensures), l .loop .inv .1)
+    let under : l .loop .i < length (now (s .args .route)) / 32 - 1 = subst (λ (n : ℕ). l .loop .i < n) (l .loop .inv .1) (c .before .before .before .before .loop-test .taken) in
+    (follows-on (s .args .slots) (now (s .args .vertices)) (now (s .args .polygons)) (now (s .args .marks)) (s .pre .0) (s .args .goal) (s .args .from) (s .args .to) (now (s .args .route)) _ (l .loop .node) (l .loop .i) (l .loop .inv .0) _ _ under (is-found (now (s .args .route)) (bytes-of l) (l .loop .i) (omega (arith, l .loop .inv .0 .inside, l .loop .inv .1, c .before .before .before .before .loop-test .taken)) (s .args .slots) (now (s .args .vertices)) (now (s .args .polygons)) (floor-bytes-of l) (s .args .to) (l .loop .node) (sym (c .before .before .before .is-step .ensures) ∙ not-false _ (c .before .before .if3 .left))) (c .enter .ensures ∙ ap (enter (floorOf (s .args .slots) (now (s .args .vertices)) (now (s .args .polygons))) (l .loop .node)) (c .before .step-in .ensures)), l .loop .inv .1)
 
 judge-end-requires : tie.Need-judge-end-requires Inv-loop μ-loop
 judge-end-requires c κs =
@@ -135,10 +141,9 @@ judge-route-spec =
     sub-last
     seed-requires-2
     loop-holds
-    find-step-requires
-    enum-known-sought
-    enum-told
+    is-step-requires
     returns-3
+    step-in-requires
     enter-requires
     add-i
     loop-less

@@ -3,9 +3,9 @@ use denote.Ref.{now}
 use mathlib.Core.Path.{sym, _∙_, subst}
 use Prim.Native.Nat.{ℕ, _<_}
 use borrow.Author.Tests.{not-true, not-false}
-use Rattle.stored.specs.Stored.{floorOf}
+use Rattle.stored.specs.Stored.{floorOf, polygonAt, cornerCount}
 use Rattle.going.specs.Going.{Yielded}
-use Rattle.going.proofs.Rounds.{turning, on-yields, edgesLeft}
+use Rattle.going.proofs.Rounds.{turning, on-yields, walked-as-on, edgesLeft}
 use Rattle.going.proofs.Stepping.{edge-inside}
 use Rattle.places.specs.Layout.{workOf}
 use Rattle.machine.specs.Search.{stateOf}
@@ -40,25 +40,26 @@ loop-holds c =
 is-over-requires : tie.Need-is-over-requires Inv-loop μ-loop
 is-over-requires c κs = c .loop .inv .goes .taken-in
 
-walk-on-requires : tie.Need-walk-on-requires Inv-loop μ-loop
-walk-on-requires c κs =
-    let s = c .before .before .before .before .before .before .before .before .before .before .before in
-    let l = c .before .before .loop in
-    (s .pre .1 .0 .stands, turning (s .args .task .slots) (now (s .args .vertices)) (now (s .args .polygons)) (s .args .from .node) (s .pre .1 .0 .stands) (l .round) (l .inv .goes) (sym (c .before .is-over .ensures) ∙ not-true (c .before .is-over .result) (c .if1 .taken)))
-
 edge-requires : tie.Need-edge-requires Inv-loop μ-loop
 edge-requires c κs =
+    let s = c .before .before .before .before .before .before .before .before .before .before .before in
+    let l = c .before .before .loop in
+    let t = turning (s .args .task .slots) (now (s .args .vertices)) (now (s .args .polygons)) (s .args .from .node) (s .pre .1 .0 .stands) (l .round) (l .inv .goes) (sym (c .before .is-over .ensures) ∙ not-true (c .before .is-over .result) (c .if1 .taken)) in
+    (t .entry-in, t .taken-in)
+
+walk-at-requires : tie.Need-walk-at-requires Inv-loop μ-loop
+walk-at-requires c κs =
     let s = c .before .before .before .before .before .before .before .before .before .before .before .before in
     let l = c .before .before .before .loop in
     let t = turning (s .args .task .slots) (now (s .args .vertices)) (now (s .args .polygons)) (s .args .from .node) (s .pre .1 .0 .stands) (l .round) (l .inv .goes) (sym (c .before .before .is-over .ensures) ∙ not-true (c .before .before .is-over .result) (c .before .if1 .taken)) in
-    (t .entry-in, t .taken-in)
+    (s .pre .1 .0 .stands, subst (λ (i : ℕ). i < cornerCount (polygonAt (s .args .task .slots) (now (s .args .polygons)) (s .args .from .node .polygon))) (sym (c .edge .ensures)) (t .edge-in))
 
 make-edge-requires : tie.Need-make-edge-requires Inv-loop μ-loop
 make-edge-requires c κs =
     let s = c .before .before .before .before .before .before .before .before .before .before .before .before .before .before .before .before in
     let f = floorOf (s .args .task .slots) (now (s .args .vertices)) (now (s .args .polygons)) in
     let l = c .before .before .before .before .before .before .before .loop in
-    (l .inv .yet .fit, (leaves-on (s .pre .1 .0) (l .inv .yet .numbered), (c .before .before .before .before .before .before .before .before .before .new .ensures, subst (λ (i : ℕ). i < s .args .task .slots) (sym (c .before .before .before .edge .ensures)) (edge-inside (s .args .task .slots) (now (s .args .vertices)) (now (s .args .polygons)) (s .args .from .node) (s .pre .1 .0 .stands) (l .round) (l .inv .goes) (sym (c .before .before .before .before .before .before .is-over .ensures) ∙ not-true (c .before .before .before .before .before .before .is-over .result) (c .before .before .before .before .before .if1 .taken))), subst Yielded (sym (c .before .before .before .before .walk-on .ensures)) (on-yields f (s .args .from .node) (l .round)))))
+    (l .inv .yet .fit, (leaves-on (s .pre .1 .0) (l .inv .yet .numbered), (c .before .before .before .before .before .before .before .before .before .new .ensures, subst (λ (i : ℕ). i < s .args .task .slots) (sym (c .before .before .before .before .edge .ensures)) (edge-inside (s .args .task .slots) (now (s .args .vertices)) (now (s .args .polygons)) (s .args .from .node) (s .pre .1 .0 .stands) (l .round) (l .inv .goes) (sym (c .before .before .before .before .before .before .is-over .ensures) ∙ not-true (c .before .before .before .before .before .before .is-over .result) (c .before .before .before .before .before .if1 .taken))), subst Yielded (sym (walked-as-on f (s .args .from .node) (l .round) (c .before .before .before .before .edge .ensures) (c .before .before .before .walk-at .ensures))) (on-yields f (s .args .from .node) (l .round)))))
 
 same-length : tie.Need-same-length Inv-loop μ-loop
 same-length c = c .before .before .before .before .before .before .before .make-edge .kept .1 .1 .1 .1 .1 .1 .1 .1 .0 ∙ c .before .before .before .before .before .before .before .before .before .before .before .before .before .before .before .loop .inv .yet .long .floats-long
@@ -75,7 +76,7 @@ returns c =
     let was = stateOf (workOf (now (s .args .floats)) (now (s .args .words)) (now (s .args .tree))) (s .args .counts) in
     let l = c .before .before .before .before .before .before .before .before .before .before .before .before .before .before .before .loop in
     let at = stateOf (workOf (l .floats) (l .words) (l .tree)) (l .counts) in
-    loops-full (now (s .args .vertices)) (now (s .args .polygons)) (s .args .task) (s .args .from) (s .pre .1 .0 .stands) was at (l .round) (l .inv) (sym (c .before .before .before .before .before .before .before .before .before .before .before .before .before .before .is-over .ensures) ∙ not-true (c .before .before .before .before .before .before .before .before .before .before .before .before .before .before .is-over .result) (c .before .before .before .before .before .before .before .before .before .before .before .before .before .if1 .taken)) _ _ (c .before .before .before .before .before .before .before .before .before .before .before .before .walk-on .ensures) (c .before .before .before .before .before .before .before .before .before .before .before .edge .ensures) _ (c .before .before .before .before .before .before .before .make-edge .ensures) (c .if2 .taken)
+    loops-full (now (s .args .vertices)) (now (s .args .polygons)) (s .args .task) (s .args .from) (s .pre .1 .0 .stands) was at (l .round) (l .inv) (sym (c .before .before .before .before .before .before .before .before .before .before .before .before .before .before .is-over .ensures) ∙ not-true (c .before .before .before .before .before .before .before .before .before .before .before .before .before .before .is-over .result) (c .before .before .before .before .before .before .before .before .before .before .before .before .before .if1 .taken)) _ _ (walked-as-on (floorOf (s .args .task .slots) (now (s .args .vertices)) (now (s .args .polygons))) (s .args .from .node) (l .round) (c .before .before .before .before .before .before .before .before .before .before .before .before .edge .ensures) (c .before .before .before .before .before .before .before .before .before .before .before .walk-at .ensures)) (c .before .before .before .before .before .before .before .before .before .before .before .before .edge .ensures) _ (c .before .before .before .before .before .before .before .make-edge .ensures) (c .if2 .taken)
 
 next-requires : tie.Need-next-requires Inv-loop μ-loop
 next-requires c κs = c .before .before .before .before .before .before .before .before .before .before .before .before .before .before .before .before .loop .inv .goes .taken-in
@@ -94,7 +95,7 @@ loop-again c =
     let was = stateOf (workOf (now (s .args .floats)) (now (s .args .words)) (now (s .args .tree))) (s .args .counts) in
     let l = c .before .before .before .before .before .before .before .before .before .before .before .before .before .before .before .before .before .loop in
     let at = stateOf (workOf (l .floats) (l .words) (l .tree)) (l .counts) in
-    loops-next (now (s .args .vertices)) (now (s .args .polygons)) (s .args .task) (s .args .from) (s .pre .1 .0 .stands) was at (l .round) (l .inv) (sym (c .before .before .before .before .before .before .before .before .before .before .before .before .before .before .before .before .is-over .ensures) ∙ not-true (c .before .before .before .before .before .before .before .before .before .before .before .before .before .before .before .before .is-over .result) (c .before .before .before .before .before .before .before .before .before .before .before .before .before .before .before .if1 .taken)) _ _ (c .before .before .before .before .before .before .before .before .before .before .before .before .before .before .walk-on .ensures) (c .before .before .before .before .before .before .before .before .before .before .before .before .before .edge .ensures) _ (c .before .before .before .before .before .before .before .before .before .make-edge .ensures) (c .before .before .if2 .left) (record { floats-long = c .before .before .before .before .before .before .before .before .before .make-edge .kept .1 .1 .1 .1 .1 .1 .1 .1 .0; words-long = c .before .before .before .before .before .before .before .before .before .make-edge .kept .1 .1 .1 .1 .1 .1 .1 .1 .1 .0; queue-long = c .before .before .before .before .before .before .before .before .before .make-edge .kept .1 .1 .1 .1 .1 .1 .1 .1 .1 .1 .0 }) (c .next .ensures)
+    loops-next (now (s .args .vertices)) (now (s .args .polygons)) (s .args .task) (s .args .from) (s .pre .1 .0 .stands) was at (l .round) (l .inv) (sym (c .before .before .before .before .before .before .before .before .before .before .before .before .before .before .before .before .is-over .ensures) ∙ not-true (c .before .before .before .before .before .before .before .before .before .before .before .before .before .before .before .before .is-over .result) (c .before .before .before .before .before .before .before .before .before .before .before .before .before .before .before .if1 .taken)) _ _ (walked-as-on (floorOf (s .args .task .slots) (now (s .args .vertices)) (now (s .args .polygons))) (s .args .from .node) (l .round) (c .before .before .before .before .before .before .before .before .before .before .before .before .before .before .edge .ensures) (c .before .before .before .before .before .before .before .before .before .before .before .before .before .walk-at .ensures)) (c .before .before .before .before .before .before .before .before .before .before .before .before .before .before .edge .ensures) _ (c .before .before .before .before .before .before .before .before .before .make-edge .ensures) (c .before .before .if2 .left) (record { floats-long = c .before .before .before .before .before .before .before .before .before .make-edge .kept .1 .1 .1 .1 .1 .1 .1 .1 .0; words-long = c .before .before .before .before .before .before .before .before .before .make-edge .kept .1 .1 .1 .1 .1 .1 .1 .1 .1 .0; queue-long = c .before .before .before .before .before .before .before .before .before .make-edge .kept .1 .1 .1 .1 .1 .1 .1 .1 .1 .1 .0 }) (c .next .ensures)
 
 same-length-4 : tie.Need-same-length-4 Inv-loop μ-loop
 same-length-4 c = c .before .before .loop .inv .yet .long .floats-long
@@ -123,8 +124,8 @@ make-steps-spec =
     begin-requires
     loop-holds
     is-over-requires
-    walk-on-requires
     edge-requires
+    walk-at-requires
     make-edge-requires
     same-length
     same-length-2

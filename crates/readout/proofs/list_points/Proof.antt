@@ -1,26 +1,28 @@
 -- `list_points` meets its contract. The loop's invariant: the points that are left, put behind those that stand, are all the points. Assumes nothing.
 use Prim.Native.Nat.{ℕ, _-_, _/_, _≤_, _<_}
 use native.Mathlib.Omega.{arith}
-use mathlib.Core.Path.{_≡_, refl, sym, _∙_, subst}
+use mathlib.Core.Path.{_≡_, refl, ap, _∙_, subst}
 use mathlib.Core.Bool.{true}
 use lib.ListN.{length}
-use borrow.Author.Needs.{needs}
 use denote.Ref.{now}
 use Rattle.stored.specs.Stored.{floorOf}
 use Rattle.route.specs.Judge.{lengthRight}
 use Rattle.route.proofs.Turns.{length-gives}
+use Rattle.edges.specs.Where.{marksOf}
+use Rattle.steps.specs.Steps.{enter}
 use Rattle.steps.specs.World.{worldIn}
 use Rattle.judge.specs.Verdict.{asked}
+use Rattle.judge.proofs.Reading.{is-read}
 use Rattle.judge.proofs.Following.{follows-begin, follows-stops}
 use Rattle.readout.proofs.Chained.{accepted-length, accepted-seed, accepted-stops-not, Places, places-begin, places-on, place-for-root, place-for-last, places-end, room-for-all, all-placed}
 use Rattle.readout.proofs.list_points.Statement.{statement}
 use Rattle.readout.proofs.list_points.Tie as tie
 
 abbrev Inv-loop : tie.InvT-loop
-Inv-loop vertices polygons slots marks goal from to route points₀ last node₀ i₀ points node i = Places slots vertices polygons goal from to route node₀ points₀ points node i × (last ≡ length route / 32 - 1)
+Inv-loop vertices polygons slots goal from to route points₀ last node₀ i₀ points node i = Places slots vertices polygons goal from to route node₀ points₀ points node i × (last ≡ length route / 32 - 1)
 
 abbrev μ-loop : tie.MeasureT-loop
-μ-loop vertices polygons slots marks goal from to route points₀ last node₀ i₀ points node i = last - i
+μ-loop vertices polygons slots goal from to route points₀ last node₀ i₀ points node i = last - i
 
 sub-last : tie.Need-sub-last Inv-loop μ-loop
 sub-last c =
@@ -35,63 +37,46 @@ loop-holds : tie.Need-loop-holds Inv-loop μ-loop
 loop-holds c =
     let s = c .before .before .before .before .before in
     let right : lengthRight (now (s .args .route)) ≡ true = accepted-length (worldIn (floorOf (s .args .slots) (now (s .args .vertices)) (now (s .args .polygons))) (asked (s .args .start) (s .args .goal)) (s .args .from) (s .args .to)) (now (s .args .route)) (s .pre .1 .0) in
-    (places-begin (s .args .slots) (now (s .args .vertices)) (now (s .args .polygons)) (s .args .goal) (s .args .from) (s .args .to) (now (s .args .route)) _ _ (follows-begin (s .args .slots) (now (s .args .vertices)) (now (s .args .polygons)) (now (s .args .marks)) (s .pre .0 .0) (s .args .goal) (s .args .from) (s .args .to) (now (s .args .route)) (s .args .start) _ (s .pre .0 .1) right (c .seed .ensures)), refl)
+    (places-begin (s .args .slots) (now (s .args .vertices)) (now (s .args .polygons)) (s .args .goal) (s .args .from) (s .args .to) (now (s .args .route)) _ _ (follows-begin (s .args .slots) (now (s .args .vertices)) (now (s .args .polygons)) (marksOf (floorOf (s .args .slots) (now (s .args .vertices)) (now (s .args .polygons)))) (s .pre .0 .0) (s .args .goal) (s .args .from) (s .args .to) (now (s .args .route)) (s .args .start) _ (s .pre .0 .1) right (c .seed .ensures)), refl)
 
-find-step-requires : tie.Need-find-step-requires Inv-loop μ-loop
-find-step-requires c κs =
-    let l = c .before in
-    let s = l .before .before .before .before .before .before in
-    let right : lengthRight (now (s .args .route)) ≡ true = accepted-length (worldIn (floorOf (s .args .slots) (now (s .args .vertices)) (now (s .args .polygons))) (asked (s .args .start) (s .args .goal)) (s .args .from) (s .args .to)) (now (s .args .route)) (s .pre .1 .0) in
-    let h = l .loop .inv .0 .follows in
-    (h .stands, (s .pre .0 .0 .most, s .pre .0 .0 .marked, omega (arith, h .inside, l .loop .inv .1, c .loop-test .taken)))
+step-in-requires : tie.Need-step-in-requires Inv-loop μ-loop
+step-in-requires c κs = omega (arith, c .before .loop .inv .0 .follows .inside, c .before .loop .inv .1, c .loop-test .taken)
 
-enum-known-sought : tie.Need-enum-known-sought Inv-loop μ-loop
-enum-known-sought c = search needs
+enter-requires : tie.Need-enter-requires Inv-loop μ-loop
+enter-requires c κs =
+    let h = c .before .before .loop .inv .0 .follows in
+    (h .stands .first-listed, h .stands .second-listed, omega (arith, h .points, h .upto, h .few))
 
-enum-told : tie.Need-enum-told Inv-loop μ-loop
-enum-told c = search needs
-
-same-length : tie.Need-same-length Inv-loop μ-loop
-same-length c = c .before .before .before .before .loop .inv .0 .long
-
-returns : tie.Need-returns Inv-loop μ-loop
+put-root-requires : tie.Need-put-root-requires Inv-loop μ-loop
 unfolding worldIn
-returns c =
+put-root-requires c κs =
     let l = c .before .before .before .before in
     let s = l .before .before .before .before .before .before in
     let right : lengthRight (now (s .args .route)) ≡ true = accepted-length (worldIn (floorOf (s .args .slots) (now (s .args .vertices)) (now (s .args .polygons))) (asked (s .args .start) (s .args .goal)) (s .args .from) (s .args .to)) (now (s .args .route)) (s .pre .1 .0) in
     let under : l .loop .i < length (now (s .args .route)) / 32 - 1 = subst (λ (n : ℕ). l .loop .i < n) (l .loop .inv .1) (c .before .before .before .loop-test .taken) in
-    absurd (accepted-stops-not (worldIn (floorOf (s .args .slots) (now (s .args .vertices)) (now (s .args .polygons))) (asked (s .args .start) (s .args .goal)) (s .args .from) (s .args .to)) (now (s .args .route)) (l .loop .i) (s .pre .1 .0) (follows-stops (s .args .slots) (now (s .args .vertices)) (now (s .args .polygons)) (now (s .args .marks)) (s .pre .0 .0) (s .args .goal) (s .args .from) (s .args .to) (now (s .args .route)) _ (l .loop .node) (l .loop .i) (l .loop .inv .0 .follows) (s .args .start) right ((accepted-seed (worldIn (floorOf (s .args .slots) (now (s .args .vertices)) (now (s .args .polygons))) (asked (s .args .start) (s .args .goal)) (s .args .from) (s .args .to)) (now (s .args .route)) (s .pre .1 .0))) (l .before .seed .ensures) under (sym (c .before .before .find-step .ensures) ∙ c .enum-told .given .1)))
-
-enter-requires : tie.Need-enter-requires Inv-loop μ-loop
-enter-requires c κs =
-    let h = c .before .before .before .before .before .loop .inv .0 .follows in
-    (h .stands .first-listed, h .stands .second-listed, omega (arith, h .points, h .upto, h .few))
-
-put-root-requires : tie.Need-put-root-requires Inv-loop μ-loop
-put-root-requires c κs =
-    let l = c .before .before .before .before .before .before .before in
-    let s = l .before .before .before .before .before .before in
-    let right : lengthRight (now (s .args .route)) ≡ true = accepted-length (worldIn (floorOf (s .args .slots) (now (s .args .vertices)) (now (s .args .polygons))) (asked (s .args .start) (s .args .goal)) (s .args .from) (s .args .to)) (now (s .args .route)) (s .pre .1 .0) in
-    let under : l .loop .i < length (now (s .args .route)) / 32 - 1 = subst (λ (n : ℕ). l .loop .i < n) (l .loop .inv .1) (c .before .before .before .before .before .before .loop-test .taken) in
     let room = room-for-all (s .args .slots) (now (s .args .vertices)) (now (s .args .polygons)) (s .args .goal) (s .args .from) (s .args .to) (now (s .args .route)) (s .args .start) _ right (l .before .seed .ensures) (length (now (s .args .points))) (s .pre .1 .1) in
-    place-for-root (s .args .slots) (now (s .args .vertices)) (now (s .args .polygons)) (s .args .goal) (s .args .from) (s .args .to) (now (s .args .route)) (now (s .args .marks)) (s .pre .0 .0) _ (now (s .args .points)) _ (l .loop .node) (l .loop .i) (l .loop .inv .0) _ under (sym (c .before .before .before .before .before .find-step .ensures) ∙ c .before .before .before .sought .given .1) (s .args .start) _ (c .before .enter .ensures) room
+    place-for-root (s .args .slots) (now (s .args .vertices)) (now (s .args .polygons)) (s .args .goal) (s .args .from) (s .args .to) (now (s .args .route)) (marksOf (floorOf (s .args .slots) (now (s .args .vertices)) (now (s .args .polygons)))) (s .pre .0 .0) _ (now (s .args .points)) _ (l .loop .node) (l .loop .i) (l .loop .inv .0) _ under (is-read (now (s .args .route)) (λ n. l .before .before .before .shared-slice-known3 .given n .fits) (l .loop .i) (omega (arith, l .loop .inv .0 .follows .inside, l .loop .inv .1, c .before .before .before .loop-test .taken)) (s .args .slots) (now (s .args .vertices)) (now (s .args .polygons)) (λ n. l .before .before .before .before .shared-slice-known2 .given n .fits) (s .args .to) (l .loop .node)
+    (λ missing. accepted-stops-not (worldIn (floorOf (s .args .slots) (now (s .args .vertices)) (now (s .args .polygons))) (asked (s .args .start) (s .args .goal)) (s .args .from) (s .args .to)) (now (s .args .route)) (l .loop .i) (s .pre .1 .0) (follows-stops (s .args .slots) (now (s .args .vertices)) (now (s .args .polygons)) (marksOf (floorOf (s .args .slots) (now (s .args .vertices)) (now (s .args .polygons)))) (s .pre .0 .0) (s .args .goal) (s .args .from) (s .args .to) (now (s .args .route)) _ (l .loop .node) (l .loop .i) (l .loop .inv .0 .follows) (s .args .start) right (accepted-seed (worldIn (floorOf (s .args .slots) (now (s .args .vertices)) (now (s .args .polygons))) (asked (s .args .start) (s .args .goal)) (s .args .from) (s .args .to)) (now (s .args .route)) (s .pre .1 .0)) (l .before .seed .ensures) under missing))) (s .args .start) _ (c .before .enter .ensures ∙ ap (enter (floorOf (s .args .slots) (now (s .args .vertices)) (now (s .args .polygons))) (l .loop .node)) (c .before .before .step-in .ensures)) room
 
 add-i : tie.Need-add-i Inv-loop μ-loop
 add-i c =
-    let h = c .before .before .before .before .before .before .before .before .before .before .loop .inv .0 .follows in
+    let h = c .before .before .before .before .before .before .before .loop .inv .0 .follows in
     omega (arith, h .upto, h .few)
 
 loop-less : tie.Need-loop-less Inv-loop μ-loop
-loop-less c = omega (arith, c .before .before .before .before .before .before .before .before .before .loop-test .taken)
+loop-less c = omega (arith, c .before .before .before .before .before .before .loop-test .taken)
 
 loop-again : tie.Need-loop-again Inv-loop μ-loop
+unfolding worldIn
 loop-again c =
-    let l = c .before .before .before .before .before .before .before .before .before .before in
+    let l = c .before .before .before .before .before .before .before in
     let s = l .before .before .before .before .before .before in
     let right : lengthRight (now (s .args .route)) ≡ true = accepted-length (worldIn (floorOf (s .args .slots) (now (s .args .vertices)) (now (s .args .polygons))) (asked (s .args .start) (s .args .goal)) (s .args .from) (s .args .to)) (now (s .args .route)) (s .pre .1 .0) in
-    let under : l .loop .i < length (now (s .args .route)) / 32 - 1 = subst (λ (n : ℕ). l .loop .i < n) (l .loop .inv .1) (c .before .before .before .before .before .before .before .before .before .loop-test .taken) in
-    (places-on (s .args .slots) (now (s .args .vertices)) (now (s .args .polygons)) (s .args .goal) (s .args .from) (s .args .to) (now (s .args .route)) (now (s .args .marks)) (s .pre .0 .0) _ (now (s .args .points)) _ (l .loop .node) (l .loop .i) (l .loop .inv .0) _ under (sym (c .before .before .before .before .before .before .before .before .find-step .ensures) ∙ c .before .before .before .before .before .before .sought .given .1) _ _ (c .before .before .before .before .enter .ensures) (c .before .before .put-root .ensures), l .loop .inv .1)
+    let under : l .loop .i < length (now (s .args .route)) / 32 - 1 = subst (λ (n : ℕ). l .loop .i < n) (l .loop .inv .1) (c .before .before .before .before .before .before .loop-test .taken) in (
+      places-on (s .args .slots) (now (s .args .vertices)) (now (s .args .polygons)) (s .args .goal) (s .args .from) (s .args .to) (now (s .args .route)) (marksOf (floorOf (s .args .slots) (now (s .args .vertices)) (now (s .args .polygons)))) (s .pre .0 .0) _ (now (s .args .points)) _ (l .loop .node) (l .loop .i) (l .loop .inv .0) _ under (is-read (now (s .args .route)) (λ n. l .before .before .before .shared-slice-known3 .given n .fits) (l .loop .i) (omega (arith, l .loop .inv .0 .follows .inside, l .loop .inv .1, c .before .before .before .before .before .before .loop-test .taken)) (s .args .slots) (now (s .args .vertices)) (now (s .args .polygons)) (λ n. l .before .before .before .before .shared-slice-known2 .given n .fits) (s .args .to) (l .loop .node)
+          (λ missing. accepted-stops-not (worldIn (floorOf (s .args .slots) (now (s .args .vertices)) (now (s .args .polygons))) (asked (s .args .start) (s .args .goal)) (s .args .from) (s .args .to)) (now (s .args .route)) (l .loop .i) (s .pre .1 .0) (follows-stops (s .args .slots) (now (s .args .vertices)) (now (s .args .polygons)) (marksOf (floorOf (s .args .slots) (now (s .args .vertices)) (now (s .args .polygons)))) (s .pre .0 .0) (s .args .goal) (s .args .from) (s .args .to) (now (s .args .route)) _ (l .loop .node) (l .loop .i) (l .loop .inv .0 .follows) (s .args .start) right (accepted-seed (worldIn (floorOf (s .args .slots) (now (s .args .vertices)) (now (s .args .polygons))) (asked (s .args .start) (s .args .goal)) (s .args .from) (s .args .to)) (now (s .args .route)) (s .pre .1 .0)) (l .before .seed .ensures) under missing))) _ _ (c .before .before .before .before .enter .ensures ∙ ap (enter (floorOf (s .args .slots) (now (s .args .vertices)) (now (s .args .polygons))) (l .loop .node)) (c .before .before .before .before .before .step-in .ensures)) (c .before .before .put-root .ensures),
+      l .loop .inv .1,
+    )
 
 put-last-requires : tie.Need-put-last-requires Inv-loop μ-loop
 put-last-requires c κs =
@@ -100,18 +85,18 @@ put-last-requires c κs =
     let right : lengthRight (now (s .args .route)) ≡ true = accepted-length (worldIn (floorOf (s .args .slots) (now (s .args .vertices)) (now (s .args .polygons))) (asked (s .args .start) (s .args .goal)) (s .args .from) (s .args .to)) (now (s .args .route)) (s .pre .1 .0) in
     let over : length (now (s .args .route)) / 32 - 1 ≤ l .loop .i = subst (λ (n : ℕ). n ≤ l .loop .i) (l .loop .inv .1) (c .before .loop-test .left) in
     let room = room-for-all (s .args .slots) (now (s .args .vertices)) (now (s .args .polygons)) (s .args .goal) (s .args .from) (s .args .to) (now (s .args .route)) (s .args .start) _ right (l .before .seed .ensures) (length (now (s .args .points))) (s .pre .1 .1) in
-    place-for-last (s .args .slots) (now (s .args .vertices)) (now (s .args .polygons)) (s .args .goal) (s .args .from) (s .args .to) (now (s .args .route)) (now (s .args .marks)) (s .pre .0 .0) _ (now (s .args .points)) _ (l .loop .node) (l .loop .i) (l .loop .inv .0) over (s .args .start) room
+    place-for-last (s .args .slots) (now (s .args .vertices)) (now (s .args .polygons)) (s .args .goal) (s .args .from) (s .args .to) (now (s .args .route)) (marksOf (floorOf (s .args .slots) (now (s .args .vertices)) (now (s .args .polygons)))) (s .pre .0 .0) _ (now (s .args .points)) _ (l .loop .node) (l .loop .i) (l .loop .inv .0) over (s .args .start) room
 
-same-length-2 : tie.Need-same-length-2 Inv-loop μ-loop
-same-length-2 c = c .before .before .put-last .kept .0 ∙ c .before .before .before .before .before .loop .inv .0 .long
+same-length : tie.Need-same-length Inv-loop μ-loop
+same-length c = c .before .before .put-last .kept .0 ∙ c .before .before .before .before .before .loop .inv .0 .long
 
-returns-2 : tie.Need-returns-2 Inv-loop μ-loop
-returns-2 c =
+returns : tie.Need-returns Inv-loop μ-loop
+returns c =
     let l = c .before .before .before .before .before in
     let s = l .before .before .before .before .before .before in
     let right : lengthRight (now (s .args .route)) ≡ true = accepted-length (worldIn (floorOf (s .args .slots) (now (s .args .vertices)) (now (s .args .polygons))) (asked (s .args .start) (s .args .goal)) (s .args .from) (s .args .to)) (now (s .args .route)) (s .pre .1 .0) in
     let over : length (now (s .args .route)) / 32 - 1 ≤ l .loop .i = subst (λ (n : ℕ). n ≤ l .loop .i) (l .loop .inv .1) (c .before .before .before .before .loop-test .left) in
-    places-end (s .args .slots) (now (s .args .vertices)) (now (s .args .polygons)) (s .args .goal) (s .args .from) (s .args .to) (now (s .args .route)) (now (s .args .marks)) (s .pre .0 .0) _ (now (s .args .points)) _ (l .loop .node) (l .loop .i) (l .loop .inv .0) over (s .args .start) _ (c .before .before .put-last .ensures) ∙ all-placed (s .args .slots) (now (s .args .vertices)) (now (s .args .polygons)) (s .args .goal) (s .args .from) (s .args .to) (now (s .args .route)) (s .args .start) _ right (l .before .seed .ensures) (now (s .args .points))
+    places-end (s .args .slots) (now (s .args .vertices)) (now (s .args .polygons)) (s .args .goal) (s .args .from) (s .args .to) (now (s .args .route)) (marksOf (floorOf (s .args .slots) (now (s .args .vertices)) (now (s .args .polygons)))) (s .pre .0 .0) _ (now (s .args .points)) _ (l .loop .node) (l .loop .i) (l .loop .inv .0) over (s .args .start) _ (c .before .before .put-last .ensures) ∙ all-placed (s .args .slots) (now (s .args .vertices)) (now (s .args .polygons)) (s .args .goal) (s .args .from) (s .args .to) (now (s .args .route)) (s .args .start) _ right (l .before .seed .ensures) (now (s .args .points))
 
 pub list-points-spec : {M : Type 1} → statement M
 list-points-spec =
@@ -122,16 +107,12 @@ list-points-spec =
     sub-last
     seed-requires
     loop-holds
-    find-step-requires
-    enum-known-sought
-    enum-told
-    same-length
-    returns
+    step-in-requires
     enter-requires
     put-root-requires
     add-i
     loop-less
     loop-again
     put-last-requires
-    same-length-2
-    returns-2)
+    same-length
+    returns)

@@ -1,6 +1,7 @@
 -- `read_route` meets its contract, verdict by verdict. Assumes nothing.
-use mathlib.Core.Path.{sym, _∙_}
+use mathlib.Core.Path.{sym, _∙_, subst}
 use denote.Ref.{now}
+use Rattle.judge.specs.Ready.{Ready}
 use Rattle.readout.proofs.Answered.{read-accepted, read-length, read-seed, read-step, read-end}
 use borrow.Author.Needs.{needs}
 use Rattle.readout.proofs.read_route.Statement.{statement}
@@ -15,7 +16,7 @@ enum-told c = search needs
 list-route-requires : tie.Need-list-route-requires
 list-route-requires c κs =
     let s = c .before .before .before .before .before .before .before .before in
-    (s .pre, sym (c .before .before .before .judge-route .ensures) ∙ c .before .enum-told .given .1)
+    ((subst (Ready (s .args .slots) (now (s .args .vertices)) (now (s .args .polygons))) (s .pre .0 .marked) (s .pre .0), s .pre .1), sym (c .before .before .before .judge-route .ensures) ∙ c .before .enum-told .given .1)
 
 enum-told-2 : tie.Need-enum-told-2
 enum-told-2 c = search needs

@@ -4,9 +4,6 @@ use Rattle.walk.proofs.Cuts.{both-at, first-only}
 use Rattle.walk.proofs.cut_before.Statement.{statement}
 use Rattle.walk.proofs.cut_before.Tie as tie
 
-second-cut-requires : tie.Need-second-cut-requires
-second-cut-requires c κs = search needs
-
 enum-known-at : tie.Need-enum-known-at
 enum-known-at c = search needs
 
@@ -33,15 +30,14 @@ returns c =
     let c1 = c .before in
     let c2 = c1 .before in
     let c4 = c2 .before .before in
-    let c6 = c4 .before .before in
-    both-at _ _ _ _ (c6 .second-cut .ensures) _ _ (c4 .at .given .1) (simp (c .three .ensures, c1 .new2 .ensures, c2 .new .ensures))
+    both-at _ _ _ _ _ (c4 .at .given .1) (simp (c .three .ensures, c1 .new2 .ensures, c2 .new .ensures))
 
 returns-2 : tie.Need-returns-2
 returns-2 c =
     let c1 = c .before in
     let c2 = c1 .before in
     let c4 = c2 .before .before in
-    first-only _ _ _ _ (c4 .second-cut .ensures) _ (c2 .enum-told .given .1) (simp (c .two .ensures, c1 .new3 .ensures))
+    first-only _ _ _ _ (c2 .enum-told .given .1) (simp (c .two .ensures, c1 .new3 .ensures))
 
 pub cut-before-spec : {M : Type 1} → statement M
-cut-before-spec = tie.close (tie.spec second-cut-requires enum-known-at new-requires new-requires-2 three-requires enum-told new-requires-3 two-requires returns returns-2)
+cut-before-spec = tie.close (tie.spec enum-known-at new-requires new-requires-2 three-requires enum-told new-requires-3 two-requires returns returns-2)

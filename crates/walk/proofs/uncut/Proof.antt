@@ -4,9 +4,6 @@ use Rattle.walk.proofs.Cuts.{second-at, second-none}
 use Rattle.walk.proofs.uncut.Statement.{statement}
 use Rattle.walk.proofs.uncut.Tie as tie
 
-second-cut-requires : tie.Need-second-cut-requires
-second-cut-requires c κs = search needs
-
 enum-known-at : tie.Need-enum-known-at
 enum-known-at c = search needs
 
@@ -33,15 +30,14 @@ returns c =
     let c1 = c .before in
     let c2 = c1 .before in
     let c4 = c2 .before .before in
-    let c6 = c4 .before .before in
-    second-at _ _ _ _ (c6 .second-cut .ensures) _ (c4 .at .given .1) (simp (c .two .ensures, c1 .new2 .ensures, c2 .new .ensures))
+    second-at _ _ _ _ (c4 .at .given .1) (simp (c .two .ensures, c1 .new2 .ensures, c2 .new .ensures))
 
 returns-2 : tie.Need-returns-2
 returns-2 c =
     let c1 = c .before in
     let c2 = c1 .before in
     let c4 = c2 .before .before in
-    second-none _ _ _ _ (c4 .second-cut .ensures) (c2 .enum-told .given .1) (simp (c .one .ensures, c1 .new3 .ensures))
+    second-none _ _ _ (c2 .enum-told .given .1) (simp (c .one .ensures, c1 .new3 .ensures))
 
 pub uncut-spec : {M : Type 1} → statement M
-uncut-spec = tie.close (tie.spec second-cut-requires enum-known-at new-requires new-requires-2 two-requires enum-told new-requires-3 one-requires returns returns-2)
+uncut-spec = tie.close (tie.spec enum-known-at new-requires new-requires-2 two-requires enum-told new-requires-3 one-requires returns returns-2)

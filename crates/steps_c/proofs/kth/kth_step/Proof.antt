@@ -6,10 +6,10 @@ use mathlib.Core.Path.{_≡_, sym, _∙_, subst}
 use borrow.Author.Needs.{needs}
 use borrow.Author.Tests.{not-true, not-false}
 use Rattle.walk.specs.declared.round.Round.{Round}
-use Rattle.stored.specs.Stored.{floorOf, polygonAt}
+use Rattle.stored.specs.Stored.{floorOf, polygonAt, cornerCount}
 use Rattle.view.specs.View.{viewOf}
 use Rattle.going.specs.Going.{Yielded, Goes}
-use Rattle.going.proofs.Rounds.{edgesLeft, begin-goes, next-goes, turning, fewer-left, on-yields}
+use Rattle.going.proofs.Rounds.{edgesLeft, begin-goes, next-goes, turning, fewer-left, on-yields, walked-as-on}
 use Rattle.going.proofs.Stepping.{viewed-polygon, edge-inside}
 use Rattle.steps_c.proofs.Counting.{none-in-goal, Counted-in, counting-begins, counting-ends, counting-finds, counting-goes-on}
 use Rattle.steps_c.proofs.kth.kth_step.Statement.{statement}
@@ -50,20 +50,21 @@ loop-holds c =
 is-over-requires : tie.Need-is-over-requires Inv-loop μ-loop
 is-over-requires c κs = c .loop .inv .1 .taken-in
 
-walk-on-requires : tie.Need-walk-on-requires Inv-loop μ-loop
-walk-on-requires c κs =
+edge-requires : tie.Need-edge-requires Inv-loop μ-loop
+edge-requires c κs =
     let l = c .before .before in
     let s = l .before .before .before .before .before .before .before in
     let on = sym (c .before .is-over .ensures) ∙ not-true _ (c .if2 .taken) in
-    (s .pre .0, turning 8 (now (s .args .vertices)) (now (s .args .polygons)) (s .args .node) (s .pre .0) (l .loop .round) (l .loop .inv .1) on)
+    let turns = turning 8 (now (s .args .vertices)) (now (s .args .polygons)) (s .args .node) (s .pre .0) (l .loop .round) (l .loop .inv .1) on in
+    (turns .entry-in, turns .taken-in)
 
-edge-requires : tie.Need-edge-requires Inv-loop μ-loop
-edge-requires c κs =
+walk-at-requires : tie.Need-walk-at-requires Inv-loop μ-loop
+walk-at-requires c κs =
     let l = c .before .before .before in
     let s = l .before .before .before .before .before .before .before in
     let on = sym (c .before .before .is-over .ensures) ∙ not-true _ (c .before .if2 .taken) in
     let turns = turning 8 (now (s .args .vertices)) (now (s .args .polygons)) (s .args .node) (s .pre .0) (l .loop .round) (l .loop .inv .1) on in
-    (turns .entry-in, turns .taken-in)
+    (s .pre .0, subst (λ (n : ℕ). n < cornerCount (polygonAt 8 (now (s .args .polygons)) (s .args .node .polygon))) (sym (c .edge .ensures)) (turns .edge-in))
 
 count-on-edge-requires : tie.Need-count-on-edge-requires Inv-loop μ-loop
 count-on-edge-requires c κs =
@@ -71,10 +72,10 @@ count-on-edge-requires c κs =
     let s = l .before .before .before .before .before .before .before in
     let on = sym (c .before .before .before .is-over .ensures) ∙ not-true _ (c .before .before .if2 .taken) in (
       (
-        subst (λ (n : ℕ). n < 8) (sym (c .edge .ensures)) (edge-inside 8 (now (s .args .vertices)) (now (s .args .polygons)) (s .args .node) (s .pre .0) (l .loop .round) (l .loop .inv .1) on),
+        subst (λ (n : ℕ). n < 8) (sym (c .before .edge .ensures)) (edge-inside 8 (now (s .args .vertices)) (now (s .args .polygons)) (s .args .node) (s .pre .0) (l .loop .round) (l .loop .inv .1) on),
         viewed-polygon (floorOf 8 (now (s .args .vertices)) (now (s .args .polygons))) (s .args .node) _ _ (l .loop .inv .0) (s .pre .0 .listed .listed),
       ),
-      subst Yielded (sym (c .before .walk-on .ensures)) (on-yields (floorOf 8 (now (s .args .vertices)) (now (s .args .polygons))) (s .args .node) (l .loop .round)),
+      subst Yielded (sym (walked-as-on (floorOf 8 (now (s .args .vertices)) (now (s .args .polygons))) (s .args .node) (l .loop .round) (c .before .edge .ensures) (c .walk-at .ensures))) (on-yields (floorOf 8 (now (s .args .vertices)) (now (s .args .polygons))) (s .args .node) (l .loop .round)),
     )
 
 enum-known-counted : tie.Need-enum-known-counted Inv-loop μ-loop
@@ -85,7 +86,7 @@ returns-2 c =
     let l = c .before .before .before .before .before .before .before .before in
     let s = l .before .before .before .before .before .before .before in
     let on = sym (c .before .before .before .before .before .before .before .is-over .ensures) ∙ not-true _ (c .before .before .before .before .before .before .if2 .taken) in
-    sym (counting-finds 8 (now (s .args .vertices)) (now (s .args .polygons)) (s .args .node) (s .pre .0) (s .args .goal) (s .args .k) (l .loop .round) (l .loop .left) (l .loop .inv .2) (l .loop .inv .1) on _ (l .loop .inv .0) _ (c .before .before .before .before .before .walk-on .ensures) _ (c .before .before .before .before .edge .ensures) _ (c .before .before .before .count-on-edge .ensures) _ (c .before .counted .given .1))
+    sym (counting-finds 8 (now (s .args .vertices)) (now (s .args .polygons)) (s .args .node) (s .pre .0) (s .args .goal) (s .args .k) (l .loop .round) (l .loop .left) (l .loop .inv .2) (l .loop .inv .1) on _ (l .loop .inv .0) _ (walked-as-on (floorOf 8 (now (s .args .vertices)) (now (s .args .polygons))) (s .args .node) (l .loop .round) (c .before .before .before .before .before .edge .ensures) (c .before .before .before .before .walk-at .ensures)) _ (c .before .before .before .before .before .edge .ensures) _ (c .before .before .before .count-on-edge .ensures) _ (c .before .counted .given .1))
 
 enum-known-counted-2 : tie.Need-enum-known-counted-2 Inv-loop μ-loop
 enum-known-counted-2 c = search needs
@@ -107,7 +108,7 @@ loop-again c =
     let on = sym (c .before .before .before .before .before .before .before .before .is-over .ensures) ∙ not-true _ (c .before .before .before .before .before .before .before .if2 .taken) in (
       l .loop .inv .0,
       subst (Goes (polygonAt 8 (now (s .args .polygons)) (s .args .node .polygon)) (s .args .node)) (sym (c .next .ensures)) (next-goes 8 (now (s .args .vertices)) (now (s .args .polygons)) (s .args .node) (s .pre .0) (l .loop .round) (l .loop .inv .1) on _),
-      counting-goes-on 8 (now (s .args .vertices)) (now (s .args .polygons)) (s .args .node) (s .pre .0) (s .args .goal) (s .args .k) (l .loop .round) (l .loop .left) (l .loop .inv .2) (l .loop .inv .1) on _ (l .loop .inv .0) _ (c .before .before .before .before .before .before .walk-on .ensures) _ (c .before .before .before .before .before .edge .ensures) _ (c .before .before .before .before .count-on-edge .ensures) _ (c .before .before .counted2 .given .1) _ (c .next .ensures),
+      counting-goes-on 8 (now (s .args .vertices)) (now (s .args .polygons)) (s .args .node) (s .pre .0) (s .args .goal) (s .args .k) (l .loop .round) (l .loop .left) (l .loop .inv .2) (l .loop .inv .1) on _ (l .loop .inv .0) _ (walked-as-on (floorOf 8 (now (s .args .vertices)) (now (s .args .polygons))) (s .args .node) (l .loop .round) (c .before .before .before .before .before .before .edge .ensures) (c .before .before .before .before .before .walk-at .ensures)) _ (c .before .before .before .before .before .before .edge .ensures) _ (c .before .before .before .before .count-on-edge .ensures) _ (c .before .before .counted2 .given .1) _ (c .next .ensures),
     )
 
 returns-3 : tie.Need-returns-3 Inv-loop μ-loop
@@ -119,4 +120,4 @@ returns-3 c =
 pub kth-step-spec : {M : Type 1} → statement M
 kth-step-spec =
     tie.close
-    (tie.spec Inv-loop μ-loop returns new-requires begin-requires loop-holds is-over-requires walk-on-requires edge-requires count-on-edge-requires enum-known-counted returns-2 enum-known-counted-2 next-requires loop-less loop-again returns-3)
+    (tie.spec Inv-loop μ-loop returns new-requires begin-requires loop-holds is-over-requires edge-requires walk-at-requires count-on-edge-requires enum-known-counted returns-2 enum-known-counted-2 next-requires loop-less loop-again returns-3)

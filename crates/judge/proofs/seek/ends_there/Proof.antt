@@ -1,0 +1,64 @@
+-- `seek::ends_there` meets its contract: each return is its definition's case, by its arm and the tests. Assumes nothing.
+use borrow.Author.Needs.{needs}
+use Rattle.judge.specs.Seek.{endsAt}
+use Rattle.judge.proofs.seek.ends_there.Statement.{statement}
+use Rattle.judge.proofs.seek.ends_there.Tie as tie
+
+mul-at : tie.Need-mul-at
+mul-at c = search needs
+
+enum-known-seen : tie.Need-enum-known-seen
+enum-known-seen c = search needs
+
+is-interval-requires : tie.Need-is-interval-requires
+is-interval-requires c κs = search needs
+
+add-is-point : tie.Need-add-is-point
+add-is-point c = search needs
+
+is-point-requires : tie.Need-is-point-requires
+is-point-requires c κs = search needs
+
+add-is-point-2 : tie.Need-add-is-point-2
+add-is-point-2 c = search needs
+
+is-point-requires-2 : tie.Need-is-point-requires-2
+is-point-requires-2 c κs = search needs
+
+enum-told : tie.Need-enum-told
+enum-told c = search needs
+
+returns : tie.Need-returns
+unfolding endsAt
+returns c =
+    let c1 = c .before in
+    let c2 = c1 .before in
+    let c3 = c2 .before in
+    let c4 = c3 .before in
+    let c6 = c4 .before .before in
+    rw (c6 .seen .given .1, ← c4 .is-interval .ensures, c3 .if1 .taken, ← c2 .is-point .ensures, c1 .if2 .taken, ← c .is-point2 .ensures)
+
+returns-2 : tie.Need-returns-2
+unfolding endsAt
+returns-2 c =
+    let c1 = c .before in
+    let c2 = c1 .before in
+    let c3 = c2 .before in
+    let c5 = c3 .before .before in
+    rw (c5 .seen .given .1, ← c3 .is-interval .ensures, c2 .if1 .taken, ← c1 .is-point .ensures, c .if2 .left)
+
+returns-3 : tie.Need-returns-3
+unfolding endsAt
+returns-3 c =
+    let c1 = c .before in
+    let c3 = c1 .before .before in
+    rw (c3 .seen .given .1, ← c1 .is-interval .ensures, c .if1 .left)
+
+returns-4 : tie.Need-returns-4
+unfolding endsAt
+returns-4 c = rw (c .enum-told .given .1)
+
+pub ends-there-spec : {M : Type 1} → statement M
+ends-there-spec =
+    tie.close
+    (tie.spec mul-at enum-known-seen is-interval-requires add-is-point is-point-requires add-is-point-2 is-point-requires-2 enum-told returns returns-2 returns-3 returns-4)

@@ -1,0 +1,66 @@
+-- `seek::is_over` meets its contract: each return is its definition's case, by the tests and by what its callees ensure. Assumes nothing.
+use borrow.Author.Needs.{needs}
+use borrow.Author.Tests.{eq-eqb}
+use borrow.Author.Tests.{ne-eqb}
+use Rattle.judge.specs.Seek.{overAt}
+use Rattle.judge.proofs.seek.is_over.Statement.{statement}
+use Rattle.judge.proofs.seek.is_over.Tie as tie
+
+cast-p : tie.Need-cast-p
+cast-p c = search needs
+
+neighbour-requires : tie.Need-neighbour-requires
+neighbour-requires c κs = search needs
+
+returns : tie.Need-returns
+unfolding overAt
+returns c =
+    let c1 = c .before in
+    rw (← c1 .neighbour .ensures, eq-eqb _ _ (c .if1 .taken))
+
+names-edge-requires : tie.Need-names-edge-requires
+names-edge-requires c κs = search needs
+
+allows-requires : tie.Need-allows-requires
+allows-requires c κs = search needs
+
+see-requires : tie.Need-see-requires
+see-requires c κs = search needs
+
+ends-there-requires : tie.Need-ends-there-requires
+ends-there-requires c κs = search needs
+
+returns-2 : tie.Need-returns-2
+unfolding overAt
+returns-2 c =
+    let c1 = c .before in
+    let c2 = c1 .before in
+    let c3 = c2 .before in
+    let c4 = c3 .before in
+    let c5 = c4 .before in
+    let c7 = c5 .before .before in
+    let c8 = c7 .before in
+    rw (← c8 .neighbour .ensures, ne-eqb _ _ (c7 .if1 .left), ← c5 .names-edge .ensures, c4 .if2 .taken, ← c3 .allows .ensures, c2 .if3 .taken, ← c1 .see .ensures, ← c .ends-there .ensures)
+
+returns-3 : tie.Need-returns-3
+unfolding overAt
+returns-3 c =
+    let c1 = c .before in
+    let c2 = c1 .before in
+    let c3 = c2 .before in
+    let c5 = c3 .before .before in
+    let c6 = c5 .before in
+    rw (← c6 .neighbour .ensures, ne-eqb _ _ (c5 .if1 .left), ← c3 .names-edge .ensures, c2 .if2 .taken, ← c1 .allows .ensures, c .if3 .left)
+
+returns-4 : tie.Need-returns-4
+unfolding overAt
+returns-4 c =
+    let c1 = c .before in
+    let c3 = c1 .before .before in
+    let c4 = c3 .before in
+    rw (← c4 .neighbour .ensures, ne-eqb _ _ (c3 .if1 .left), ← c1 .names-edge .ensures, c .if2 .left)
+
+pub is-over-spec : {M : Type 1} → statement M
+is-over-spec =
+    tie.close
+    (tie.spec cast-p neighbour-requires returns names-edge-requires allows-requires see-requires ends-there-requires returns-2 returns-3 returns-4)

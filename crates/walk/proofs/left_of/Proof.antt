@@ -1,0 +1,26 @@
+-- `walk::left_of` meets its contract: each return is its definition's case, by its arm. Assumes nothing.
+use borrow.Author.Needs.{needs}
+use Rattle.walk.specs.Walk.{leftOf}
+use Rattle.walk.proofs.left_of.Statement.{statement}
+use Rattle.walk.proofs.left_of.Tie as tie
+
+enum-known-at : tie.Need-enum-known-at
+enum-known-at c = search needs
+
+enum-told : tie.Need-enum-told
+enum-told c = search needs
+
+returns : tie.Need-returns
+unfolding leftOf
+returns c =
+    let c2 = c .before .before in
+    rw (c2 .at .given .1)
+
+returns-2 : tie.Need-returns-2
+unfolding leftOf
+returns-2 c = rw (c .enum-told .given .1)
+
+pub left-of-spec : {M : Type 1} → statement M
+left-of-spec =
+    tie.close
+    (tie.spec enum-known-at enum-told returns returns-2)
