@@ -1,6 +1,4 @@
 -- The laws of the judge that belong to no one function.
-pub mod Seeking
-pub mod Reading
 pub mod Ending
 pub mod Following
 pub mod Looking

@@ -1,5 +1,4 @@
 -- What the judge says of a floor, a question and a route file.
-pub mod Seek
 pub mod Ready
 pub mod Verdict
 pub mod Exactly

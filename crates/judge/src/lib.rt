@@ -19,8 +19,6 @@ use records::Record;
 use route::Judged;
 use steps::Node;
 
-pub mod seek;
-
 // What the judge says.
 pub enum Verdict {
     // 2 to 9: the floor or the question is refused, and the route file was not read.
@@ -64,7 +62,7 @@ pub fn judge_route(
         return Judged::Length;
     }
     let seed = Record::seed(from, start);
-    if !seed.is_at(route, 0) {
+    if !reader::begins_with(route, seed) {
         return Judged::NotSeed;
     }
     let last = route.len() / Record::BYTES - 1;

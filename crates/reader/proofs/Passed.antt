@@ -11,11 +11,14 @@ use borrow.Author.Tests.{eq-eqb, ne-eqb, eqb-true, eqb-false}
 use lib.Dec.{eqb}
 use lib.ListN.{length, drop, length-take, length-drop}
 use denote.Ref.{RefT, now}
-use Rattle.route.specs.Record.{recordAt, records}
+use Rattle.point.specs.declared.Point.{Point}
+use Rattle.route.specs.Record.{seedBytes, recordAt, records}
+use Rattle.route.specs.Judge.{sameBytes}
 use Rattle.route.proofs.Bytes.{length-wordsBytes}
 use Rattle.route.proofs.Find.{other-of}
 use Rattle.records.specs.declared.Record.{Record}
-use Rattle.records.specs.Records.{recordBytes}
+use Rattle.records.specs.Records.{recordBytes, seedRecord}
+use Rattle.records.proofs.Stored.{seed-tested}
 use Rattle.reader.specs.declared.Reader.{Reader}
 use Rattle.reader.specs.Reading.{isRecord, recordsFrom, numberAfter, firstOf, nextOf}
 
@@ -80,3 +83,10 @@ one-fewer file i = by-test (eqb (recordsFrom file i) 0) refl
     by-test : (t : Bool) → eqb (recordsFrom file i) 0 ≡ t → recordsFrom file (cond t i (i + 1)) ≡ recordsFrom file i - 1
     by-test true e = omega (arith, eqb-true (recordsFrom file i) 0 e)
     by-test false e = omega (arith, eqb-false (recordsFrom file i) 0 e)
+
+-- ---- the first record of a route
+
+-- a file begins with the seed's record exactly where its first bytes are the seed's
+pub begins-tested : (file : List ℕ) (polygon : ℕ) (start : Point) {r : Record} {b : Bool} → r ≡ seedRecord polygon start → b ≡ isRecord file 0 r → sameBytes (recordAt file 0) (seedBytes polygon start) ≡ b
+unfolding isRecord
+begins-tested file polygon start e f = seed-tested (recordAt file 0) polygon start e f

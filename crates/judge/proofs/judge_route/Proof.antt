@@ -8,14 +8,13 @@ use borrow.Author.Tests.{not-true, not-false}
 use denote.Ref.{now}
 use Rattle.word.specs.Word.{Bytes}
 use Rattle.stored.specs.Stored.{floorOf}
-use Rattle.route.specs.Record.{recordAt}
 use Rattle.route.specs.Judge.{lengthRight}
 use Rattle.route.proofs.Turns.{length-gives, begins-length, begins-wrong}
-use Rattle.records.proofs.Stored.{seed-tested}
+use Rattle.reader.proofs.Passed.{begins-tested}
 use Rattle.steps.specs.Steps.{enter}
 use Rattle.steps.specs.World.{worldIn}
 use Rattle.judge.specs.Verdict.{asked}
-use Rattle.judge.proofs.Reading.{is-found, is-missing}
+use Rattle.seek.proofs.Reading.{is-found, is-missing}
 use Rattle.judge.proofs.Following.{Follows, follows-begin, follows-on, follows-stops, follows-ends}
 use Rattle.judge.proofs.judge_route.Statement.{statement}
 use Rattle.judge.proofs.judge_route.Tie as tie
@@ -44,18 +43,15 @@ returns c =
 seed-requires : tie.Need-seed-requires Inv-loop μ-loop
 seed-requires c κs = tt
 
-is-at-requires : tie.Need-is-at-requires Inv-loop μ-loop
-is-at-requires c κs =
-    let s = c .before .before .before .before .before .before in
-    let right : lengthRight (now (s .args .route)) ≡ true = sym (c .before .before .length-right .ensures) ∙ not-false _ (c .before .if1 .left) in
-    omega (arith, length-gives (now (s .args .route)) right)
+begins-with-requires : tie.Need-begins-with-requires Inv-loop μ-loop
+begins-with-requires c κs = tt
 
 returns-2 : tie.Need-returns-2 Inv-loop μ-loop
 unfolding worldIn
 returns-2 c =
     let s = c .before .before .before .before .before .before .before .before in
     let right : lengthRight (now (s .args .route)) ≡ true = sym (c .before .before .before .before .length-right .ensures) ∙ not-false _ (c .before .before .before .if1 .left) in
-    sym (begins-wrong (worldIn (floorOf (s .args .slots) (now (s .args .vertices)) (now (s .args .polygons))) (asked (s .args .start) (s .args .goal)) (s .args .from) (s .args .to)) (now (s .args .route)) right (seed-tested (recordAt (now (s .args .route)) 0) (s .args .from) (s .args .start) (c .before .before .seed .ensures) (c .before .is-at .ensures) ∙ not-true _ (c .if2 .taken)))
+    sym (begins-wrong (worldIn (floorOf (s .args .slots) (now (s .args .vertices)) (now (s .args .polygons))) (asked (s .args .start) (s .args .goal)) (s .args .from) (s .args .to)) (now (s .args .route)) right (begins-tested (now (s .args .route)) (s .args .from) (s .args .start) (c .before .before .seed .ensures) (c .before .begins-with .ensures) ∙ not-true _ (c .if2 .taken)))
 
 sub-last : tie.Need-sub-last Inv-loop μ-loop
 sub-last c =
@@ -84,7 +80,7 @@ returns-3 c =
     let s = l .before .before .before .before .before .before .before .before .before .before in
     let under : l .loop .i < length (now (s .args .route)) / 32 - 1 = subst (λ (n : ℕ). l .loop .i < n) (l .loop .inv .1) (c .before .before .loop-test .taken) in
     let right : lengthRight (now (s .args .route)) ≡ true = sym (l .before .before .before .before .before .before .length-right .ensures) ∙ not-false _ (l .before .before .before .before .before .if1 .left) in
-    let seeded = seed-tested (recordAt (now (s .args .route)) 0) (s .args .from) (s .args .start) (l .before .before .before .before .seed .ensures) (l .before .before .before .is-at .ensures) ∙ not-false _ (l .before .before .if2 .left) in
+    let seeded = begins-tested (now (s .args .route)) (s .args .from) (s .args .start) (l .before .before .before .before .seed .ensures) (l .before .before .before .begins-with .ensures) ∙ not-false _ (l .before .before .if2 .left) in
     sym (follows-stops (s .args .slots) (now (s .args .vertices)) (now (s .args .polygons)) (now (s .args .marks)) (s .pre .0) (s .args .goal) (s .args .from) (s .args .to) (now (s .args .route)) _ (l .loop .node) (l .loop .i) (l .loop .inv .0) (s .args .start) right seeded (l .before .seed2 .ensures) under (is-missing (now (s .args .route)) (bytes-of l) (l .loop .i) (omega (arith, l .loop .inv .0 .inside, l .loop .inv .1, c .before .before .loop-test .taken)) (s .args .slots) (now (s .args .vertices)) (now (s .args .polygons)) (floor-bytes-of l) (s .args .to) (l .loop .node) (sym (c .before .is-step .ensures) ∙ not-true _ (c .if3 .taken))))
 
 step-in-requires : tie.Need-step-in-requires Inv-loop μ-loop
@@ -123,7 +119,7 @@ returns-4 c =
     let l = c .before .before in
     let s = l .before .before .before .before .before .before .before .before .before .before in
     let right : lengthRight (now (s .args .route)) ≡ true = sym (l .before .before .before .before .before .before .length-right .ensures) ∙ not-false _ (l .before .before .before .before .before .if1 .left) in
-    let seeded = seed-tested (recordAt (now (s .args .route)) 0) (s .args .from) (s .args .start) (l .before .before .before .before .seed .ensures) (l .before .before .before .is-at .ensures) ∙ not-false _ (l .before .before .if2 .left) in
+    let seeded = begins-tested (now (s .args .route)) (s .args .from) (s .args .start) (l .before .before .before .before .seed .ensures) (l .before .before .before .begins-with .ensures) ∙ not-false _ (l .before .before .if2 .left) in
     let over : length (now (s .args .route)) / 32 - 1 ≤ l .loop .i = subst (λ (n : ℕ). n ≤ l .loop .i) (l .loop .inv .1) (c .before .loop-test .left) in
     c .judge-end .ensures ∙ sym (follows-ends (s .args .slots) (now (s .args .vertices)) (now (s .args .polygons)) (now (s .args .marks)) (s .pre .0) (s .args .goal) (s .args .from) (s .args .to) (now (s .args .route)) _ (l .loop .node) (l .loop .i) (l .loop .inv .0) (s .args .start) right seeded (l .before .seed2 .ensures) over)
 
@@ -136,7 +132,7 @@ judge-route-spec =
     length-right-requires
     returns
     seed-requires
-    is-at-requires
+    begins-with-requires
     returns-2
     sub-last
     seed-requires-2

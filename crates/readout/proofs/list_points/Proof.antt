@@ -12,7 +12,7 @@ use Rattle.edges.specs.Where.{marksOf}
 use Rattle.steps.specs.Steps.{enter}
 use Rattle.steps.specs.World.{worldIn}
 use Rattle.judge.specs.Verdict.{asked}
-use Rattle.judge.proofs.Reading.{is-read}
+use Rattle.seek.proofs.Reading.{is-read}
 use Rattle.judge.proofs.Following.{follows-begin, follows-stops}
 use Rattle.readout.proofs.Chained.{accepted-length, accepted-seed, accepted-stops-not, Places, places-begin, places-on, place-for-root, place-for-last, places-end, room-for-all, all-placed}
 use Rattle.readout.proofs.list_points.Statement.{statement}

@@ -32,7 +32,7 @@ use Rattle.steps.specs.Steps.{isInterval, isAllowed, rootAfter, clipped, ifSeen
 use Rattle.going.specs.Going.{wholeOf, walkBy, beginRound, walkedAt, walkedOn, leftIn, Stands, Goes}
 use Rattle.going.proofs.Rounds.{by-seed, walk-of-seed, walk-of-node, array-of-three-on, its-polygon, walked-as-on}
 use Rattle.going.proofs.Left.{left-begin, steps-left-next, left-over}
-use Rattle.judge.specs.Seek.{isStepAt, isAmong, namesAt, endsAt, overAt}
+use Rattle.seek.specs.Seek.{isStepAt, isAmong, namesAt, endsAt, overAt}
 
 -- ---- what a node sees of an interval
 

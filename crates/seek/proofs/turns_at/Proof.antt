@@ -5,9 +5,9 @@ use borrow.Author.Needs.{needs}
 use denote.Ref.{now}
 use Rattle.edges.proofs.Inside.{vertex-used}
 use Rattle.view.proofs.Seen.{mark-tells}
-use Rattle.judge.specs.Seek.{turnsAt}
-use Rattle.judge.proofs.seek.turns_at.Statement.{statement}
-use Rattle.judge.proofs.seek.turns_at.Tie as tie
+use Rattle.seek.specs.Seek.{turnsAt}
+use Rattle.seek.proofs.turns_at.Statement.{statement}
+use Rattle.seek.proofs.turns_at.Tie as tie
 
 used-vertex-requires : tie.Need-used-vertex-requires
 used-vertex-requires c κs = search needs

@@ -9,9 +9,9 @@ use Rattle.stored.specs.Stored.{floorOf, polygonAt, cornerCount}
 use Rattle.going.specs.Going.{Goes}
 use Rattle.going.proofs.Rounds.{edgesLeft, begin-goes, next-goes, turning, fewer-left}
 use Rattle.going.proofs.Stepping.{edge-inside}
-use Rattle.judge.proofs.Seeking.{three-parts, none-in-goal, Among-in, seeking-begins, seeking-ends, first-is-it, second-is-it, third-is-it, seeking-goes-on}
-use Rattle.judge.proofs.seek.is_step.Statement.{statement}
-use Rattle.judge.proofs.seek.is_step.Tie as tie
+use Rattle.seek.proofs.Seeking.{three-parts, none-in-goal, Among-in, seeking-begins, seeking-ends, first-is-it, second-is-it, third-is-it, seeking-goes-on}
+use Rattle.seek.proofs.is_step.Statement.{statement}
+use Rattle.seek.proofs.is_step.Tie as tie
 
 abbrev Inv-loop : tie.InvT-loop
 Inv-loop vertices polygons slots marks node goal route i round₀ round =

@@ -26,7 +26,7 @@ use Rattle.records.proofs.Read.{step-stands, step-is-read}
 use Rattle.steps.specs.declared.Node.{Node}
 use Rattle.steps.specs.Steps.{stepsFrom}
 use Rattle.steps.proofs.World.{steps-are-held}
-use Rattle.judge.specs.Seek.{pointAt, isStepAt, isAmong}
+use Rattle.seek.specs.Seek.{pointAt, isStepAt, isAmong}
 
 -- ---- in the code's order, and in the record's
 

@@ -2,9 +2,9 @@
 use borrow.Author.Needs.{needs}
 use borrow.Author.Tests.{eq-eqb}
 use borrow.Author.Tests.{ne-eqb}
-use Rattle.judge.specs.Seek.{namesAt}
-use Rattle.judge.proofs.seek.names_edge.Statement.{statement}
-use Rattle.judge.proofs.seek.names_edge.Tie as tie
+use Rattle.seek.specs.Seek.{namesAt}
+use Rattle.seek.proofs.names_edge.Statement.{statement}
+use Rattle.seek.proofs.names_edge.Tie as tie
 
 mul-at : tie.Need-mul-at
 mul-at c = search needs

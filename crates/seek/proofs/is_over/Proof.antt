@@ -2,9 +2,9 @@
 use borrow.Author.Needs.{needs}
 use borrow.Author.Tests.{eq-eqb}
 use borrow.Author.Tests.{ne-eqb}
-use Rattle.judge.specs.Seek.{overAt}
-use Rattle.judge.proofs.seek.is_over.Statement.{statement}
-use Rattle.judge.proofs.seek.is_over.Tie as tie
+use Rattle.seek.specs.Seek.{overAt}
+use Rattle.seek.proofs.is_over.Statement.{statement}
+use Rattle.seek.proofs.is_over.Tie as tie
 
 cast-p : tie.Need-cast-p
 cast-p c = search needs

@@ -1,9 +1,9 @@
 -- `seek::allows` meets its contract: each return is its definition's case, by its arm. Assumes nothing.
 use borrow.Author.Needs.{needs}
 use Rattle.steps.specs.Steps.{isAllowed}
-use Rattle.judge.specs.Seek.{turnsAt}
-use Rattle.judge.proofs.seek.allows.Statement.{statement}
-use Rattle.judge.proofs.seek.allows.Tie as tie
+use Rattle.seek.specs.Seek.{turnsAt}
+use Rattle.seek.proofs.allows.Statement.{statement}
+use Rattle.seek.proofs.allows.Tie as tie
 
 enum-told : tie.Need-enum-told
 enum-told c = search needs

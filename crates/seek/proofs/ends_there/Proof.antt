@@ -1,8 +1,8 @@
 -- `seek::ends_there` meets its contract: each return is its definition's case, by its arm and the tests. Assumes nothing.
 use borrow.Author.Needs.{needs}
-use Rattle.judge.specs.Seek.{endsAt}
-use Rattle.judge.proofs.seek.ends_there.Statement.{statement}
-use Rattle.judge.proofs.seek.ends_there.Tie as tie
+use Rattle.seek.specs.Seek.{endsAt}
+use Rattle.seek.proofs.ends_there.Statement.{statement}
+use Rattle.seek.proofs.ends_there.Tie as tie
 
 mul-at : tie.Need-mul-at
 mul-at c = search needs

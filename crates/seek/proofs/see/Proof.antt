@@ -1,9 +1,9 @@
 -- `seek::see` meets its contract: each return is its definition's case, by the tests and by what its callees ensure. Assumes nothing.
 use borrow.Author.Needs.{needs}
 use Rattle.steps.specs.Steps.{clipped}
-use Rattle.judge.proofs.Seeking.{sees-clipped, sees-whole}
-use Rattle.judge.proofs.seek.see.Statement.{statement}
-use Rattle.judge.proofs.seek.see.Tie as tie
+use Rattle.seek.proofs.Seeking.{sees-clipped, sees-whole}
+use Rattle.seek.proofs.see.Statement.{statement}
+use Rattle.seek.proofs.see.Tie as tie
 
 returns : tie.Need-returns
 unfolding clipped

@@ -8,7 +8,7 @@ ghost use Rattle.stored.specs.Stored.{floorOf, polygonAt, cornerCount};
 ghost use Rattle.edges.specs.Where.{marksOf};
 ghost use Rattle.steps.specs.Steps.{isAllowed, clipped, stepsFrom};
 ghost use Rattle.going.specs.Going.{Stands};
-ghost use Rattle.judge.specs.Seek.{pointAt, namesAt, endsAt, turnsAt, overAt, isAmong};
+ghost use Rattle.seek.specs.Seek.{pointAt, namesAt, endsAt, turnsAt, overAt, isAmong};
 use cone::Clipped;
 use cut::SuccessorType;
 use point::Point;

@@ -2,9 +2,9 @@
 use borrow.Author.Needs.{needs}
 use borrow.Author.Tests.{eq-eqb}
 use borrow.Author.Tests.{ne-eqb}
-use Rattle.judge.specs.Seek.{pointAt}
-use Rattle.judge.proofs.seek.is_point.Statement.{statement}
-use Rattle.judge.proofs.seek.is_point.Tie as tie
+use Rattle.seek.specs.Seek.{pointAt}
+use Rattle.seek.proofs.is_point.Statement.{statement}
+use Rattle.seek.proofs.is_point.Tie as tie
 
 read-requires : tie.Need-read-requires
 read-requires c κs = search needs

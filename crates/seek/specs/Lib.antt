@@ -1,0 +1,2 @@
+-- Whether a record is a step out of a node.
+pub mod Seek
