@@ -154,12 +154,40 @@ fn list_route(
     Readout::Listed(count)
 }
 
+// Judges a route. The marks stand in a function of their own, since they are done with when the points are listed, and their room
+// is free.
+fn judge_marked(
+    vertices: &[u8],
+    polygons: &[u8],
+    slots: usize,
+    start: Point,
+    goal: Point,
+    from: u32,
+    to: u32,
+    route: &[u8],
+) -> Judged
+    requires { ⌜ Ready slots (now vertices) (now polygons) (marksOf (floorOf slots (now vertices) (now polygons))) × (from < length (now polygons) / (slots * 8)) ⌝ }
+    ensures { λ r. ⌜ r ≡ judgeOf (worldIn (floorOf slots (now (vertices .entry)) (now (polygons .entry))) (asked start goal) from to) (now (route .entry)) ⌝ }
+{
+    let marks = edges::turns::turn_vertices(vertices, polygons, slots);
+    judge_route(
+        vertices,
+        polygons,
+        slots,
+        &marks,
+        start,
+        goal,
+        from,
+        to,
+        route,
+    )
+}
+
 // Judges a route, then lists its points.
 fn read_route(
     vertices: &[u8],
     polygons: &[u8],
     slots: usize,
-    marks: &[u32; 32],
     start: Point,
     goal: Point,
     from: u32,
@@ -167,21 +195,11 @@ fn read_route(
     route: &[u8],
     points: &mut [f32],
 ) -> Readout
-    requires { ⌜ Ready slots (now vertices) (now polygons) (now marks) × (from < length (now polygons) / (slots * 8)) ⌝ }
+    requires { ⌜ Ready slots (now vertices) (now polygons) (marksOf (floorOf slots (now vertices) (now polygons))) × (from < length (now polygons) / (slots * 8)) ⌝ }
     ensures { λ r. ⌜ r ≡ answerIf (Read (judgeOf (worldIn (floorOf slots (now (vertices .entry)) (now (polygons .entry))) (asked start goal) from to) (now (route .entry)))) (pointsOf (worldIn (floorOf slots (now (vertices .entry)) (now (polygons .entry))) (asked start goal) from to) goal (now (route .entry))) (now (points .entry)) ⌝ }
     ensures { λ _. ⌜ now (points .exit) ≡ outIf (Read (judgeOf (worldIn (floorOf slots (now (vertices .entry)) (now (polygons .entry))) (asked start goal) from to) (now (route .entry)))) (pointsOf (worldIn (floorOf slots (now (vertices .entry)) (now (polygons .entry))) (asked start goal) from to) goal (now (route .entry))) (now (points .entry)) ⌝ }
 {
-    let judged = judge_route(
-        vertices,
-        polygons,
-        slots,
-        marks,
-        start,
-        goal,
-        from,
-        to,
-        route,
-    );
+    let judged = judge_marked(vertices, polygons, slots, start, goal, from, to, route);
     match judged {
         Judged::Accepted => list_route(
             vertices,
@@ -216,14 +234,12 @@ pub fn read_out(
     let look = floor::look_at(vertices, polygons, question);
     match look {
         Look::Inside(from, to) => {
-            let marks = edges::turns::turn_vertices(vertices, polygons, SLOTS);
             let start = stored::question_start(question);
             let goal = stored::question_goal(question);
             read_route(
                 vertices,
                 polygons,
                 SLOTS,
-                &marks,
                 start,
                 goal,
                 from as u32,
