@@ -1,17 +1,17 @@
 -- The order of the places: of places whose f is no NaN, none is before itself, of two different ones one is before the other, and not to be before goes on
 -- from place to place. And the better of two words: it is one of the two, and neither is before it. Assumes nothing.
-use Prim.Native.Nat.{ℕ, _≤_, _<_}
+use Prim.Native.Nat.{ℕ, _≤_, _<_, max}
 use native.Mathlib.Omega.{arith}
 use mathlib.Core.Path.{_≡_, refl, sym, ap, _∙_}
 use mathlib.Core.Bool.{Bool, true, false, not, _&&_, _||_, cond}
 use mathlib.Core.Logic.{_⊎_, inl, inr, ⊎-elim}
-use borrow.Author.Tests.{ltb-true, ltb-false, leb-false, le-ltb, lt-leb}
+use borrow.Author.Tests.{ltb-true, ltb-false, leb-false, le-ltb, le-leb, lt-leb}
 use lib.Dec.{T, leb, ltb}
 use lib.Ieee.{Float, isNan, lt, eq}
 use Rattle.float.proofs.Rank.{Like, ranks, is-not-before, is-equal, equal, not-before as not-lt, before as is-lt}
 use Rattle.float.proofs.Order.{lt-irreflexive}
 use Rattle.float.proofs.Tests.{untrue, and-true, or-true}
-use Rattle.queue.specs.Queue.{before, better}
+use Rattle.queue.specs.Queue.{before, loneOf, better}
 
 -- ---- before
 
@@ -89,6 +89,15 @@ module _ (f : ℕ → Float) (n a b : ℕ) where
       go false true u = x
       go false false true = x
       go false false false = y
+
+  -- where one of them at most is a place, it is that one
+  pub better-lone : n ≤ max a b → better f n a b ≡ loneOf n a b
+  unfolding better loneOf
+  better-lone h = go (leb n a) refl
+    where
+      go : (s : Bool) → leb n a ≡ s → cond s b (cond (leb n b) a (cond (before f a b) a b)) ≡ cond s b a
+      go true e = refl
+      go false e = rw (le-leb n b (omega (arith, h, leb-false n a e)))
 
   -- it is a place if one of them is
   pub better-place-left : a < n → better f n a b < n

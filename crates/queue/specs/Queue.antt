@@ -19,6 +19,10 @@ none = 0xFFFFFFFF
 unfoldable pub before : (ℕ → Float) → ℕ → ℕ → Bool
 before f i j = lt (f i) (f j) || (eq (f i) (f j) && ltb i j)
 
+-- of two words of which one at most is one of the n places, that one
+unfoldable pub loneOf : ℕ → ℕ → ℕ → ℕ
+loneOf n a b = cond (leb n a) b a
+
 -- the better of two words; one that is none of the n places, as `none`, loses
 unfoldable pub better : (ℕ → Float) → ℕ → ℕ → ℕ → ℕ
 better f n a b = cond (leb n a) b (cond (leb n b) a (cond (before f a b) a b))

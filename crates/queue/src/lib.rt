@@ -4,10 +4,10 @@
 
 ghost use mathlib.Core.Path.{_≡_};
 ghost use mathlib.Core.Bool.{Bool, true, false};
-ghost use Prim.Native.Nat.{ℕ, _+_, _*_, _≤_, _<_};
+ghost use Prim.Native.Nat.{ℕ, _+_, _*_, _≤_, _<_, max};
 ghost use lib.Ieee.{Float};
 ghost use lib.ListN.{length, getD};
-ghost use Rattle.queue.specs.Queue.{none, before, better, ownOf, put, leastOf, NoNan, Empty, Tree};
+ghost use Rattle.queue.specs.Queue.{none, before, loneOf, better, ownOf, put, leastOf, NoNan, Empty, Tree};
 ghost use Rattle.queue.specs.Words.{column, Rows, Room, cleared, repaired, stays, climbed, placed};
 
 // The word that stands for no place.
@@ -29,18 +29,35 @@ fn before(fs: &[f32], stride: usize, at: usize, i: usize, j: usize) -> bool
     false
 }
 
-// The better of two words. One that is no place, as NONE, loses.
+fn greater(i: usize, j: usize) -> usize
+    ensures { λ r. ⌜ r ≡ max i j ⌝ }
+{
+    if i <= j {
+        return j;
+    }
+    i
+}
+
+// Of two words of which one at most is a place, that one.
+fn lone(n: usize, a: u32, b: u32) -> u32
+    ensures { λ r. ⌜ r ≡ loneOf n a b ⌝ }
+{
+    if n <= a as usize {
+        return b;
+    }
+    a
+}
+
+// The better of two words. One that is no place, as NONE, loses. One test asks whether both are places, and none asks which of them is:
+// that could not be foreseen.
 fn better(fs: &[f32], stride: usize, at: usize, n: usize, a: u32, b: u32) -> u32
     requires { ⌜ Rows n stride at (now fs) ⌝ }
     ensures { λ r. ⌜ r ≡ better (column (now (fs .entry)) stride at) n a b ⌝ }
 {
     let i = a as usize;
     let j = b as usize;
-    if n <= i {
-        return b;
-    }
-    if n <= j {
-        return a;
+    if n <= greater(i, j) {
+        return lone(n, a, b);
     }
     if before(fs, stride, at, i, j) {
         return a;

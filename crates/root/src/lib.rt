@@ -90,19 +90,16 @@ fn guess(digits: u32, places: u32) -> u32
 }
 
 // The guess, or one beside it that is nearer to the root of n. A guess is seldom off by more; so the search from here mostly has
-// nowhere to go, and no branch of it is taken that a processor could not foresee. Only its range is proved.
+// nowhere to go. Which of the three it is no processor could foresee, so no branch asks: a sum that reaches 2 ^ 50 is one
+// step. Only its range is proved.
 fn nudged(n: u64, guess: u64) -> u64
     requires { ⌜ (n < 2 ^ 48) × (guess < 2 ^ 25) ⌝ }
     ensures { λ r. ⌜ r < 2 ^ 25 ⌝ }
 {
     let square = guess * guess;
-    if n + guess <= square {
-        return (guess + 0x1FF_FFFF) % 0x200_0000;
-    }
-    if square + guess < n {
-        return (guess + 1) % 0x200_0000;
-    }
-    guess
+    let up = (n + 0x3_FFFF_FFFF_FFFF - square - guess) / 0x4_0000_0000_0000;
+    let down = (square + 0x4_0000_0000_0000 - n - guess) / 0x4_0000_0000_0000;
+    (guess + 0x200_0000 + up - down) % 0x200_0000
 }
 
 // The whole number nearest to the root of n.

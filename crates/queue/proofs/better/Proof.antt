@@ -1,35 +1,48 @@
 -- `queue::better` meets its contract. Assumes nothing.
-use mathlib.Core.Path.{sym}
-use borrow.Author.Tests.{le-leb, lt-leb}
+use mathlib.Core.Path.{sym, _∙_}
+use native.Mathlib.Omega.{arith}
+use borrow.Author.Needs.{needs}
+use borrow.Author.Tests.{lt-leb}
 use denote.Ref.{now}
+use Prim.Native.Nat.{_<_, max}
 use Rattle.queue.specs.Queue.{better}
+use Rattle.queue.specs.Words.{column}
 use Rattle.queue.proofs.Lent.{row-inside}
+use Rattle.queue.proofs.Order.{better-lone}
 use Rattle.queue.proofs.better.Statement.{statement}
 use Rattle.queue.proofs.better.Tie as tie
 
-returns : tie.Need-returns
-unfolding better
-returns c = simp (le-leb _ _ (c .if1 .taken))
+greater-requires : tie.Need-greater-requires
+greater-requires c κs = search needs
 
-returns-2 : tie.Need-returns-2
-unfolding better
-returns-2 c = simp (lt-leb _ _ (c .before .if1 .left), le-leb _ _ (c .if2 .taken))
+lone-requires : tie.Need-lone-requires
+lone-requires c κs = search needs
+
+returns : tie.Need-returns
+returns c =
+    let s = c .before .before .before .before in
+    c .lone .ensures ∙ sym (better-lone _ _ (s .args .a) (s .args .b) (omega (arith, c .before .if1 .taken, c .before .before .greater .ensures)))
 
 before-requires : tie.Need-before-requires
 before-requires c κs =
     let s = c .before .before .before in
     let inside = row-inside (s .args .n) (s .args .stride) (s .args .at) (now (s .args .fs)) (s .pre) in
-    (inside (s .args .a) (c .before .if1 .left), inside (s .args .b) (c .if2 .left))
+    let both : max (s .args .a) (s .args .b) < s .args .n = omega (arith, c .if1 .left, c .before .greater .ensures) in
+    (inside (s .args .a) (omega (arith, both)), inside (s .args .b) (omega (arith, both)))
+
+returns-2 : tie.Need-returns-2
+unfolding better
+returns-2 c =
+    let s = c .before .before .before .before .before in
+    let both : max (s .args .a) (s .args .b) < s .args .n = omega (arith, c .before .before .if1 .left, c .before .before .before .greater .ensures) in
+    rw (lt-leb (s .args .n) (s .args .a) (omega (arith, both)), lt-leb (s .args .n) (s .args .b) (omega (arith, both)), ← (c .before .before2 .ensures), c .if2 .taken)
 
 returns-3 : tie.Need-returns-3
 unfolding better
 returns-3 c =
-    simp (lt-leb _ _ (c .before .before .before .if1 .left), lt-leb _ _ (c .before .before .if2 .left), sym (c .before .before2 .ensures), c .if3 .taken)
-
-returns-4 : tie.Need-returns-4
-unfolding better
-returns-4 c =
-    simp (lt-leb _ _ (c .before .before .before .if1 .left), lt-leb _ _ (c .before .before .if2 .left), sym (c .before .before2 .ensures), c .if3 .left)
+    let s = c .before .before .before .before .before in
+    let both : max (s .args .a) (s .args .b) < s .args .n = omega (arith, c .before .before .if1 .left, c .before .before .before .greater .ensures) in
+    rw (lt-leb (s .args .n) (s .args .a) (omega (arith, both)), lt-leb (s .args .n) (s .args .b) (omega (arith, both)), ← (c .before .before2 .ensures), c .if2 .left)
 
 pub better-spec : {M : Type 1} → statement M
-better-spec = tie.close (tie.spec returns returns-2 before-requires returns-3 returns-4)
+better-spec = tie.close (tie.spec greater-requires lone-requires returns before-requires returns-2 returns-3)
