@@ -11,13 +11,14 @@ ghost use lib.ListN.{length};
 ghost use lib.Ieee.{isNan};
 ghost use Rattle.walk.specs.Walk.{partsOf};
 ghost use Rattle.walk.specs.Round.{successorsOn};
-ghost use Rattle.stored.specs.Stored.{floorOf};
+ghost use Rattle.stored.specs.Stored.{floorOf, polygonAt, cornerCount};
 ghost use Rattle.steps.specs.Steps.{stepOf, stepsOver, stepsFrom};
 ghost use Rattle.view.specs.View.{viewOf};
-ghost use Rattle.going.specs.Going.{Yielded};
+ghost use Rattle.going.specs.Going.{walkedAt};
 ghost use Rattle.places.specs.Layout.{workOf, recordFor};
 ghost use Rattle.machine.specs.Search.{stateOf, making, kept, taken, made, madeIf, madeAll};
 ghost use Rattle.machine.specs.Sound.{Ground, Fit, OnRecord, Leaves};
+use cut::SuccessorType;
 use machine::Counts;
 use machine::Made;
 use machine::Origin;
@@ -36,7 +37,6 @@ use steps::Permitted;
 use stored::UNUSED;
 use view::View;
 use walk::Part;
-use walk::Walked;
 
 fn is_nan(x: f32) -> bool
     ensures { λ r. ⌜ r ≡ isNan x ⌝ }
@@ -172,6 +172,13 @@ fn make(
     }
 }
 
+// What was made of an edge: the counters, whether a node found no place, and the kind to go on with.
+struct Edged {
+    counts: Counts,
+    full: bool,
+    next: SuccessorType,
+}
+
 // Makes the node behind a part of an edge, if a step leads over it. The step is asked for in two, the neighbour first: at a
 // wall, and where the kind is not allowed, nothing is laid out for the clip.
 fn make_part(
@@ -223,7 +230,8 @@ fn make_part(
     }
 }
 
-// Makes the nodes behind the parts of an edge, until one finds no place.
+// Walks an edge, where kind is what the edge before it left, and makes the nodes behind its parts, until one finds no place. What the walk
+// yields stays in here, since what a call takes is copied.
 fn make_edge(
     vertices: &[u8],
     polygons: &[u8],
@@ -232,16 +240,20 @@ fn make_edge(
     from: Origin,
     view: View,
     edge: usize,
-    walked: Walked,
+    kind: SuccessorType,
     floats: &mut [f32],
     words: &mut [u32],
     tree: &mut [u32],
-) -> Made
+) -> Edged
     requires { ⌜ Fit task (stateOf (workOf (now floats) (now words) (now tree)) counts) ⌝ }
     requires { ⌜ Leaves (now vertices) (now polygons) task (stateOf (workOf (now floats) (now words) (now tree)) counts) from ⌝ }
-    requires { ⌜ (view ≡ viewOf (floorOf (task .slots) (now vertices) (now polygons)) (from .node)) × (edge < task .slots) × Yielded walked ⌝ }
-    ensures { λ r. ⌜ making (stateOf (workOf (now (floats .exit)) (now (words .exit)) (now (tree .exit))) (r .counts)) (r .full) ≡ madeAll (floorOf (task .slots) (now (vertices .entry)) (now (polygons .entry))) task (stateOf (workOf (now (floats .entry)) (now (words .entry)) (now (tree .entry))) counts) from (stepsOver (floorOf (task .slots) (now (vertices .entry)) (now (polygons .entry))) (from .node) (successorsOn edge (partsOf walked))) ⌝ }
+    requires { ⌜ (view ≡ viewOf (floorOf (task .slots) (now vertices) (now polygons)) (from .node)) × (edge < task .slots) × (edge < cornerCount (polygonAt (task .slots) (now polygons) (from .node .polygon))) ⌝ }
+    ensures { λ r. ⌜ making (stateOf (workOf (now (floats .exit)) (now (words .exit)) (now (tree .exit))) (r .counts)) (r .full) ≡ madeAll (floorOf (task .slots) (now (vertices .entry)) (now (polygons .entry))) task (stateOf (workOf (now (floats .entry)) (now (words .entry)) (now (tree .entry))) counts) from (stepsOver (floorOf (task .slots) (now (vertices .entry)) (now (polygons .entry))) (from .node) (successorsOn edge (partsOf (walkedAt (floorOf (task .slots) (now (vertices .entry)) (now (polygons .entry))) (from .node) edge kind)))) ⌝ }
+    ensures { λ r. ⌜ r .next ≡ walkedAt (floorOf (task .slots) (now (vertices .entry)) (now (polygons .entry))) (from .node) edge kind .kind ⌝ }
 {
+    let node = from.node;
+    let walked = going::walk_at(vertices, polygons, task.slots, node, edge, kind);
+    let next = walked.kind;
     let mut counts = counts;
     let mut k = 0;
     while k < walked.count {
@@ -259,15 +271,17 @@ fn make_edge(
             words,
             tree,
         );
-        if made.full {
-            return made;
-        }
         counts = made.counts;
+        let full = made.full;
+        if full {
+            return Edged { counts, full, next };
+        }
         k += 1;
     }
-    Made {
+    Edged {
         counts,
         full: false,
+        next,
     }
 }
 
@@ -296,8 +310,7 @@ pub fn make_steps(
     while !round.is_over() {
         let edge = round.edge();
         let kind = round.kind;
-        let walked = going::walk_at(vertices, polygons, slots, node, edge, kind);
-        let made = make_edge(
+        let edged = make_edge(
             vertices,
             polygons,
             task,
@@ -305,16 +318,17 @@ pub fn make_steps(
             from,
             view,
             edge,
-            walked,
+            kind,
             floats,
             words,
             tree,
         );
-        if made.full {
-            return made;
+        counts = edged.counts;
+        let full = edged.full;
+        if full {
+            return Made { counts, full };
         }
-        counts = made.counts;
-        let next = walked.kind;
+        let next = edged.next;
         round = round.next(next);
     }
     Made {

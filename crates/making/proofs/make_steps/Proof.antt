@@ -1,11 +1,11 @@
 -- `making::make_steps` meets its contract. Assumes nothing.
 use denote.Ref.{now}
-use mathlib.Core.Path.{sym, _∙_, subst}
+use mathlib.Core.Path.{refl, sym, ap, _∙_, subst}
 use Prim.Native.Nat.{ℕ, _<_}
 use borrow.Author.Tests.{not-true, not-false}
+use Rattle.walk.specs.Turns.{nextOf}
 use Rattle.stored.specs.Stored.{floorOf, polygonAt, cornerCount}
-use Rattle.going.specs.Going.{Yielded}
-use Rattle.going.proofs.Rounds.{turning, on-yields, walked-as-on, edgesLeft}
+use Rattle.going.proofs.Rounds.{turning, walked-as-on, edgesLeft}
 use Rattle.going.proofs.Stepping.{edge-inside}
 use Rattle.places.specs.Layout.{workOf}
 use Rattle.machine.specs.Search.{stateOf}
@@ -14,11 +14,11 @@ use Rattle.making.proofs.make_steps.Statement.{statement}
 use Rattle.making.proofs.make_steps.Tie as tie
 
 abbrev Inv-loop : tie.InvT-loop
-Inv-loop vertices polygons marks task from floats₀ words₀ tree₀ node slots view round₀ counts₀ floats words tree round counts =
+Inv-loop vertices polygons marks task from floats₀ words₀ tree₀ slots view round₀ counts₀ floats words tree round counts =
     Loops vertices polygons task from (stateOf (workOf floats₀ words₀ tree₀) counts₀) (stateOf (workOf floats words tree) counts) round
 
 abbrev μ-loop : tie.MeasureT-loop
-μ-loop vertices polygons marks task from floats₀ words₀ tree₀ node slots view round₀ counts₀ floats words tree round counts =
+μ-loop vertices polygons marks task from floats₀ words₀ tree₀ slots view round₀ counts₀ floats words tree round counts =
     edgesLeft round
 
 new-requires : tie.Need-new-requires Inv-loop μ-loop
@@ -47,28 +47,23 @@ edge-requires c κs =
     let t = turning (s .args .task .slots) (now (s .args .vertices)) (now (s .args .polygons)) (s .args .from .node) (s .pre .1 .0 .stands) (l .round) (l .inv .goes) (sym (c .before .is-over .ensures) ∙ not-true (c .before .is-over .result) (c .if1 .taken)) in
     (t .entry-in, t .taken-in)
 
-walk-at-requires : tie.Need-walk-at-requires Inv-loop μ-loop
-walk-at-requires c κs =
-    let s = c .before .before .before .before .before .before .before .before .before .before .before .before in
-    let l = c .before .before .before .loop in
-    let t = turning (s .args .task .slots) (now (s .args .vertices)) (now (s .args .polygons)) (s .args .from .node) (s .pre .1 .0 .stands) (l .round) (l .inv .goes) (sym (c .before .before .is-over .ensures) ∙ not-true (c .before .before .is-over .result) (c .before .if1 .taken)) in
-    (s .pre .1 .0 .stands, subst (λ (i : ℕ). i < cornerCount (polygonAt (s .args .task .slots) (now (s .args .polygons)) (s .args .from .node .polygon))) (sym (c .edge .ensures)) (t .edge-in))
-
 make-edge-requires : tie.Need-make-edge-requires Inv-loop μ-loop
 make-edge-requires c κs =
-    let s = c .before .before .before .before .before .before .before .before .before .before .before .before .before .before .before .before in
-    let f = floorOf (s .args .task .slots) (now (s .args .vertices)) (now (s .args .polygons)) in
-    let l = c .before .before .before .before .before .before .before .loop in
-    (l .inv .yet .fit, (leaves-on (s .pre .1 .0) (l .inv .yet .numbered), (c .before .before .before .before .before .before .before .before .before .new .ensures, subst (λ (i : ℕ). i < s .args .task .slots) (sym (c .before .before .before .before .edge .ensures)) (edge-inside (s .args .task .slots) (now (s .args .vertices)) (now (s .args .polygons)) (s .args .from .node) (s .pre .1 .0 .stands) (l .round) (l .inv .goes) (sym (c .before .before .before .before .before .before .is-over .ensures) ∙ not-true (c .before .before .before .before .before .before .is-over .result) (c .before .before .before .before .before .if1 .taken))), subst Yielded (sym (walked-as-on f (s .args .from .node) (l .round) (c .before .before .before .before .edge .ensures) (c .before .before .before .walk-at .ensures))) (on-yields f (s .args .from .node) (l .round)))))
+    let s = c .before .before .before .before .before .before .before .before .before .before .before .before .before .before .before in
+    let l = c .before .before .before .before .before .before .loop in
+    let on = sym (c .before .before .before .before .before .is-over .ensures) ∙ not-true (c .before .before .before .before .before .is-over .result) (c .before .before .before .before .if1 .taken) in
+    let t = turning (s .args .task .slots) (now (s .args .vertices)) (now (s .args .polygons)) (s .args .from .node) (s .pre .1 .0 .stands) (l .round) (l .inv .goes) on in
+    let is = sym (c .before .before .before .edge .ensures) in
+    (l .inv .yet .fit, (leaves-on (s .pre .1 .0) (l .inv .yet .numbered), (c .before .before .before .before .before .before .before .before .new .ensures, subst (λ (i : ℕ). i < s .args .task .slots) is (edge-inside (s .args .task .slots) (now (s .args .vertices)) (now (s .args .polygons)) (s .args .from .node) (s .pre .1 .0 .stands) (l .round) (l .inv .goes) on), subst (λ (i : ℕ). i < cornerCount (polygonAt (s .args .task .slots) (now (s .args .polygons)) (s .args .from .node .polygon))) is (t .edge-in))))
 
 same-length : tie.Need-same-length Inv-loop μ-loop
-same-length c = c .before .before .before .before .before .before .before .make-edge .kept .1 .1 .1 .1 .1 .1 .1 .1 .0 ∙ c .before .before .before .before .before .before .before .before .before .before .before .before .before .before .before .loop .inv .yet .long .floats-long
+same-length c = c .before .before .before .before .before .before .before .before .make-edge .kept .1 .1 .1 .1 .1 .1 .1 .1 .0 ∙ c .before .before .before .before .before .before .before .before .before .before .before .before .before .before .before .loop .inv .yet .long .floats-long
 
 same-length-2 : tie.Need-same-length-2 Inv-loop μ-loop
-same-length-2 c = c .before .before .before .before .before .before .before .make-edge .kept .1 .1 .1 .1 .1 .1 .1 .1 .1 .0 ∙ c .before .before .before .before .before .before .before .before .before .before .before .before .before .before .before .loop .inv .yet .long .words-long
+same-length-2 c = c .before .before .before .before .before .before .before .before .make-edge .kept .1 .1 .1 .1 .1 .1 .1 .1 .1 .0 ∙ c .before .before .before .before .before .before .before .before .before .before .before .before .before .before .before .loop .inv .yet .long .words-long
 
 same-length-3 : tie.Need-same-length-3 Inv-loop μ-loop
-same-length-3 c = c .before .before .before .before .before .before .before .make-edge .kept .1 .1 .1 .1 .1 .1 .1 .1 .1 .1 .0 ∙ c .before .before .before .before .before .before .before .before .before .before .before .before .before .before .before .loop .inv .yet .long .queue-long
+same-length-3 c = c .before .before .before .before .before .before .before .before .make-edge .kept .1 .1 .1 .1 .1 .1 .1 .1 .1 .1 .0 ∙ c .before .before .before .before .before .before .before .before .before .before .before .before .before .before .before .loop .inv .yet .long .queue-long
 
 returns : tie.Need-returns Inv-loop μ-loop
 returns c =
@@ -76,26 +71,26 @@ returns c =
     let was = stateOf (workOf (now (s .args .floats)) (now (s .args .words)) (now (s .args .tree))) (s .args .counts) in
     let l = c .before .before .before .before .before .before .before .before .before .before .before .before .before .before .before .loop in
     let at = stateOf (workOf (l .floats) (l .words) (l .tree)) (l .counts) in
-    loops-full (now (s .args .vertices)) (now (s .args .polygons)) (s .args .task) (s .args .from) (s .pre .1 .0 .stands) was at (l .round) (l .inv) (sym (c .before .before .before .before .before .before .before .before .before .before .before .before .before .before .is-over .ensures) ∙ not-true (c .before .before .before .before .before .before .before .before .before .before .before .before .before .before .is-over .result) (c .before .before .before .before .before .before .before .before .before .before .before .before .before .if1 .taken)) _ _ (walked-as-on (floorOf (s .args .task .slots) (now (s .args .vertices)) (now (s .args .polygons))) (s .args .from .node) (l .round) (c .before .before .before .before .before .before .before .before .before .before .before .before .edge .ensures) (c .before .before .before .before .before .before .before .before .before .before .before .walk-at .ensures)) (c .before .before .before .before .before .before .before .before .before .before .before .before .edge .ensures) _ (c .before .before .before .before .before .before .before .make-edge .ensures) (c .if2 .taken)
+    loops-full (now (s .args .vertices)) (now (s .args .polygons)) (s .args .task) (s .args .from) (s .pre .1 .0 .stands) was at (l .round) (l .inv) (sym (c .before .before .before .before .before .before .before .before .before .before .before .before .before .before .is-over .ensures) ∙ not-true (c .before .before .before .before .before .before .before .before .before .before .before .before .before .before .is-over .result) (c .before .before .before .before .before .before .before .before .before .before .before .before .before .if1 .taken)) _ _ (walked-as-on (floorOf (s .args .task .slots) (now (s .args .vertices)) (now (s .args .polygons))) (s .args .from .node) (l .round) (c .before .before .before .before .before .before .before .before .before .before .before .before .edge .ensures) refl) (c .before .before .before .before .before .before .before .before .before .before .before .before .edge .ensures) _ (c .before .before .before .before .before .before .before .before .make-edge .ensures .0) (c .if2 .taken)
 
 next-requires : tie.Need-next-requires Inv-loop μ-loop
-next-requires c κs = c .before .before .before .before .before .before .before .before .before .before .before .before .before .before .before .before .loop .inv .goes .taken-in
+next-requires c κs = c .before .before .before .before .before .before .before .before .before .before .before .before .before .before .before .loop .inv .goes .taken-in
 
 loop-less : tie.Need-loop-less Inv-loop μ-loop
 loop-less c =
-    let s = c .before .before .before .before .before .before .before .before .before .before .before .before .before .before .before .before .before .before .before .before .before .before .before .before .before .before in
+    let s = c .before .before .before .before .before .before .before .before .before .before .before .before .before .before .before .before .before .before .before .before .before .before .before .before .before in
     let was = stateOf (workOf (now (s .args .floats)) (now (s .args .words)) (now (s .args .tree))) (s .args .counts) in
-    let l = c .before .before .before .before .before .before .before .before .before .before .before .before .before .before .before .before .before .loop in
+    let l = c .before .before .before .before .before .before .before .before .before .before .before .before .before .before .before .before .loop in
     let at = stateOf (workOf (l .floats) (l .words) (l .tree)) (l .counts) in
-    loops-less (now (s .args .vertices)) (now (s .args .polygons)) (s .args .task) (s .args .from) (s .pre .1 .0 .stands) was at (l .round) (l .inv) (sym (c .before .before .before .before .before .before .before .before .before .before .before .before .before .before .before .before .is-over .ensures) ∙ not-true (c .before .before .before .before .before .before .before .before .before .before .before .before .before .before .before .before .is-over .result) (c .before .before .before .before .before .before .before .before .before .before .before .before .before .before .before .if1 .taken)) _ (c .next .ensures)
+    loops-less (now (s .args .vertices)) (now (s .args .polygons)) (s .args .task) (s .args .from) (s .pre .1 .0 .stands) was at (l .round) (l .inv) (sym (c .before .before .before .before .before .before .before .before .before .before .before .before .before .before .before .is-over .ensures) ∙ not-true (c .before .before .before .before .before .before .before .before .before .before .before .before .before .before .before .is-over .result) (c .before .before .before .before .before .before .before .before .before .before .before .before .before .before .if1 .taken)) _ (c .next .ensures)
 
 loop-again : tie.Need-loop-again Inv-loop μ-loop
 loop-again c =
-    let s = c .before .before .before .before .before .before .before .before .before .before .before .before .before .before .before .before .before .before .before .before .before .before .before .before .before .before in
+    let s = c .before .before .before .before .before .before .before .before .before .before .before .before .before .before .before .before .before .before .before .before .before .before .before .before .before in
     let was = stateOf (workOf (now (s .args .floats)) (now (s .args .words)) (now (s .args .tree))) (s .args .counts) in
-    let l = c .before .before .before .before .before .before .before .before .before .before .before .before .before .before .before .before .before .loop in
+    let l = c .before .before .before .before .before .before .before .before .before .before .before .before .before .before .before .before .loop in
     let at = stateOf (workOf (l .floats) (l .words) (l .tree)) (l .counts) in
-    loops-next (now (s .args .vertices)) (now (s .args .polygons)) (s .args .task) (s .args .from) (s .pre .1 .0 .stands) was at (l .round) (l .inv) (sym (c .before .before .before .before .before .before .before .before .before .before .before .before .before .before .before .before .is-over .ensures) ∙ not-true (c .before .before .before .before .before .before .before .before .before .before .before .before .before .before .before .before .is-over .result) (c .before .before .before .before .before .before .before .before .before .before .before .before .before .before .before .if1 .taken)) _ _ (walked-as-on (floorOf (s .args .task .slots) (now (s .args .vertices)) (now (s .args .polygons))) (s .args .from .node) (l .round) (c .before .before .before .before .before .before .before .before .before .before .before .before .before .before .edge .ensures) (c .before .before .before .before .before .before .before .before .before .before .before .before .before .walk-at .ensures)) (c .before .before .before .before .before .before .before .before .before .before .before .before .before .before .edge .ensures) _ (c .before .before .before .before .before .before .before .before .before .make-edge .ensures) (c .before .before .if2 .left) (record { floats-long = c .before .before .before .before .before .before .before .before .before .make-edge .kept .1 .1 .1 .1 .1 .1 .1 .1 .0; words-long = c .before .before .before .before .before .before .before .before .before .make-edge .kept .1 .1 .1 .1 .1 .1 .1 .1 .1 .0; queue-long = c .before .before .before .before .before .before .before .before .before .make-edge .kept .1 .1 .1 .1 .1 .1 .1 .1 .1 .1 .0 }) (c .next .ensures)
+    loops-next (now (s .args .vertices)) (now (s .args .polygons)) (s .args .task) (s .args .from) (s .pre .1 .0 .stands) was at (l .round) (l .inv) (sym (c .before .before .before .before .before .before .before .before .before .before .before .before .before .before .before .is-over .ensures) ∙ not-true (c .before .before .before .before .before .before .before .before .before .before .before .before .before .before .before .is-over .result) (c .before .before .before .before .before .before .before .before .before .before .before .before .before .before .if1 .taken)) _ _ (walked-as-on (floorOf (s .args .task .slots) (now (s .args .vertices)) (now (s .args .polygons))) (s .args .from .node) (l .round) (c .before .before .before .before .before .before .before .before .before .before .before .before .before .edge .ensures) refl) (c .before .before .before .before .before .before .before .before .before .before .before .before .before .edge .ensures) _ (c .before .before .before .before .before .before .before .before .before .make-edge .ensures .0) (c .before .if2 .left) (record { floats-long = c .before .before .before .before .before .before .before .before .before .make-edge .kept .1 .1 .1 .1 .1 .1 .1 .1 .0; words-long = c .before .before .before .before .before .before .before .before .before .make-edge .kept .1 .1 .1 .1 .1 .1 .1 .1 .1 .0; queue-long = c .before .before .before .before .before .before .before .before .before .make-edge .kept .1 .1 .1 .1 .1 .1 .1 .1 .1 .1 .0 }) (c .next .ensures ∙ ap (nextOf (l .round)) (c .before .before .before .before .before .before .before .before .before .make-edge .ensures .1))
 
 same-length-4 : tie.Need-same-length-4 Inv-loop μ-loop
 same-length-4 c = c .before .before .loop .inv .yet .long .floats-long
@@ -125,7 +120,6 @@ make-steps-spec =
     loop-holds
     is-over-requires
     edge-requires
-    walk-at-requires
     make-edge-requires
     same-length
     same-length-2
