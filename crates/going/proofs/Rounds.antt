@@ -60,11 +60,15 @@ module _ (node : Node) (edge : Segment) (kind : SuccessorType) where
       (λ e. rw (walk-of-seed e) three-whole)
       (λ e. rw (walk-of-node e) (array-is-of-three (node .root) (node .interval) edge kind))
 
+pub at-yields : (f : Floor) (node : Node) (i : ℕ) (kind : SuccessorType) → Yielded (walkedAt f node i kind)
+unfolding walkedAt
+at-yields f node i kind =
+    let on = edge f (node .polygon) i in
+    record { few = one-to-three-on node on kind .1; three = array-of-three-on node on kind }
+
 pub on-yields : (f : Floor) (node : Node) (round : Round) → Yielded (walkedOn f node round)
-unfolding walkedOn walkedAt
-on-yields f node round =
-    let on = edge f (node .polygon) (edgeNumberOf round) in
-    record { few = one-to-three-on node on (round .kind) .1; three = array-of-three-on node on (round .kind) }
+unfolding walkedOn
+on-yields f node round = at-yields f node (edgeNumberOf round) (round .kind)
 
 -- what the code walks, by the number of the round's edge
 pub walked-as-on : (f : Floor) (node : Node) (round : Round) {i : ℕ} {w : Walked} → i ≡ edgeNumberOf round → w ≡ walkedAt f node i (round .kind) → w ≡ walkedOn f node round

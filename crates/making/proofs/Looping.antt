@@ -14,14 +14,13 @@ use Rattle.walk.specs.declared.round.Round.{Round}
 use Rattle.walk.specs.Walk.{partsOf, partAt}
 use Rattle.walk.specs.Round.{successorsOn}
 use Rattle.walk.specs.Turns.{isOverOf, edgeNumberOf, nextOf}
-use Rattle.stored.specs.Stored.{Floor, Polygon, floorOf, polygonAt, edge}
+use Rattle.stored.specs.Stored.{Floor, Polygon, floorOf, polygonAt}
 use Rattle.route.specs.declared.Step.{Step}
-use Rattle.steps.specs.declared.Node.{Node}
 use Rattle.steps.specs.declared.Permitted.{Permitted}
 use Rattle.steps.specs.declared.Permitted.the-variants.{Yes, No}
 use Rattle.steps.specs.Steps.{andThen, stepOf, stepsOver, stepsFrom}
-use Rattle.going.specs.Going.{walkedAt, walkedOn, beginRound, leftIn, Yielded, Stands, Goes}
-use Rattle.going.proofs.Rounds.{one-to-three-on, array-of-three-on, begin-goes, next-goes, edgesLeft, fewer-left}
+use Rattle.going.specs.Going.{walkedOn, beginRound, leftIn, Yielded, Stands, Goes}
+use Rattle.going.proofs.Rounds.{begin-goes, next-goes, edgesLeft, fewer-left}
 use Rattle.going.proofs.Left.{next-part, no-part, left-begin, left-over, steps-left-next}
 use Rattle.machine.specs.declared.Task.{Task}
 use Rattle.machine.specs.declared.Origin.{Origin}
@@ -85,13 +84,6 @@ module _ (f : Floor) (t : Task) (o : Origin) (was : State) (all : List Step) whe
 
 abbrev pub onEdge : Floor → Origin → ℕ → Walked → List Step
 onEdge f o edge walked = stepsOver f (o .node) (successorsOn edge (partsOf walked))
-
--- what the code walks of an edge
-pub at-yields : (f : Floor) (node : Node) (i : ℕ) (kind : SuccessorType) {w : Walked} → w ≡ walkedAt f node i kind → Yielded w
-unfolding walkedAt
-at-yields f node i kind e =
-    let on = edge f (node .polygon) i in
-    subst Yielded (sym e) (record { few = one-to-three-on node on kind .1; three = array-of-three-on node on kind })
 
 pub one-of-three : (walked : Walked) → Yielded walked → (k : ℕ) → k < walked .count → k < 3
 one-of-three walked yielded k l = omega (arith, l, yielded .few)

@@ -2,11 +2,13 @@
 use Prim.Native.Nat.{_-_}
 use native.Mathlib.Omega.{arith}
 use denote.Ref.{now}
-use mathlib.Core.Path.{_∙_, ap}
+use mathlib.Core.Path.{sym, _∙_, ap, subst}
 use Rattle.stored.specs.Stored.{floorOf}
+use Rattle.going.specs.Going.{Yielded}
+use Rattle.going.proofs.Rounds.{at-yields}
 use Rattle.places.specs.Layout.{workOf}
 use Rattle.machine.specs.Search.{stateOf, madeAll}
-use Rattle.making.proofs.Looping.{Yet, leaves-on, onEdge, one-of-three, at-yields, fromPart, parts-begin, parts-over, parts-full, parts-next}
+use Rattle.making.proofs.Looping.{Yet, leaves-on, onEdge, one-of-three, fromPart, parts-begin, parts-over, parts-full, parts-next}
 use Rattle.making.proofs.make_edge.Statement.{statement}
 use Rattle.making.proofs.make_edge.Tie as tie
 
@@ -37,14 +39,14 @@ mul-part c =
     let s = c .before .before .before .before .before .before .before .before .before in
     let w = c .before .before .walk-at in
     let l = c .before .loop in
-    omega (arith, one-of-three (w .result) (at-yields (floorOf (s .args .task .slots) (now (s .args .vertices)) (now (s .args .polygons))) (s .args .from .node) (s .args .edge) (s .args .kind) (w .ensures)) (l .k) (c .loop-test .taken))
+    omega (arith, one-of-three (w .result) (subst Yielded (sym (w .ensures)) (at-yields (floorOf (s .args .task .slots) (now (s .args .vertices)) (now (s .args .polygons))) (s .args .from .node) (s .args .edge) (s .args .kind))) (l .k) (c .loop-test .taken))
 
 element-copy-out-part : tie.Need-element-copy-out-part Inv-loop μ-loop
 element-copy-out-part c =
     let s = c .before .before .before .before .before .before .before .before .before in
     let w = c .before .before .walk-at in
     let l = c .before .loop in
-    one-of-three (w .result) (at-yields (floorOf (s .args .task .slots) (now (s .args .vertices)) (now (s .args .polygons))) (s .args .from .node) (s .args .edge) (s .args .kind) (w .ensures)) (l .k) (c .loop-test .taken)
+    one-of-three (w .result) (subst Yielded (sym (w .ensures)) (at-yields (floorOf (s .args .task .slots) (now (s .args .vertices)) (now (s .args .polygons))) (s .args .from .node) (s .args .edge) (s .args .kind))) (l .k) (c .loop-test .taken)
 
 make-part-requires : tie.Need-make-part-requires Inv-loop μ-loop
 make-part-requires c κs =
@@ -69,7 +71,7 @@ returns c =
     let w = c .before .before .before .before .before .before .before .before .before .before .before .before .before .before .before .walk-at in
     let l = c .before .before .before .before .before .before .before .before .before .before .before .before .before .before .loop in
     let at = stateOf (workOf (l .floats) (l .words) (l .tree)) (l .counts) in (
-      parts-full f (s .args .task) (s .args .from) (s .args .edge) (w .result) was (at-yields (floorOf (s .args .task .slots) (now (s .args .vertices)) (now (s .args .polygons))) (s .args .from .node) (s .args .edge) (s .args .kind) (w .ensures)) at (l .k) (l .inv) (c .before .before .before .before .before .before .before .before .before .before .before .before .before .loop-test .taken) _ (c .before .before .before .before .before .before .before .before .make-part .ensures) (c .if1 .taken)
+      parts-full f (s .args .task) (s .args .from) (s .args .edge) (w .result) was (subst Yielded (sym (w .ensures)) (at-yields (floorOf (s .args .task .slots) (now (s .args .vertices)) (now (s .args .polygons))) (s .args .from .node) (s .args .edge) (s .args .kind))) at (l .k) (l .inv) (c .before .before .before .before .before .before .before .before .before .before .before .before .before .loop-test .taken) _ (c .before .before .before .before .before .before .before .before .make-part .ensures) (c .if1 .taken)
           ∙ ap (λ x. madeAll f (s .args .task) was (s .args .from) (onEdge f (s .args .from) (s .args .edge) x)) (w .ensures),
       ap (λ x. x .kind) (w .ensures),
     )
@@ -79,7 +81,7 @@ add-k c =
     let s = c .before .before .before .before .before .before .before .before .before .before .before .before .before .before .before .before .before .before .before .before .before .before in
     let w = c .before .before .before .before .before .before .before .before .before .before .before .before .before .before .before .walk-at in
     let l = c .before .before .before .before .before .before .before .before .before .before .before .before .before .before .loop in
-    omega (arith, one-of-three (w .result) (at-yields (floorOf (s .args .task .slots) (now (s .args .vertices)) (now (s .args .polygons))) (s .args .from .node) (s .args .edge) (s .args .kind) (w .ensures)) (l .k) (c .before .before .before .before .before .before .before .before .before .before .before .before .before .loop-test .taken))
+    omega (arith, one-of-three (w .result) (subst Yielded (sym (w .ensures)) (at-yields (floorOf (s .args .task .slots) (now (s .args .vertices)) (now (s .args .polygons))) (s .args .from .node) (s .args .edge) (s .args .kind))) (l .k) (c .before .before .before .before .before .before .before .before .before .before .before .before .before .loop-test .taken))
 
 loop-less : tie.Need-loop-less Inv-loop μ-loop
 loop-less c = omega (arith, c .before .before .before .before .before .before .before .before .before .before .before .before .before .loop-test .taken)
@@ -92,7 +94,7 @@ loop-again c =
     let w = c .before .before .before .before .before .before .before .before .before .before .before .before .before .before .before .walk-at in
     let l = c .before .before .before .before .before .before .before .before .before .before .before .before .before .before .loop in
     let at = stateOf (workOf (l .floats) (l .words) (l .tree)) (l .counts) in
-    parts-next f (s .args .task) (s .args .from) (s .args .edge) (w .result) was (at-yields (floorOf (s .args .task .slots) (now (s .args .vertices)) (now (s .args .polygons))) (s .args .from .node) (s .args .edge) (s .args .kind) (w .ensures)) at (l .k) (l .inv) (c .before .before .before .before .before .before .before .before .before .before .before .before .before .loop-test .taken) _ (c .before .before .before .before .before .before .before .before .make-part .ensures) (c .if1 .left) (record { floats-long = c .before .before .before .before .before .before .before .before .make-part .kept .1 .1 .1 .1 .1 .1 .1 .1 .0; words-long = c .before .before .before .before .before .before .before .before .make-part .kept .1 .1 .1 .1 .1 .1 .1 .1 .1 .0; queue-long = c .before .before .before .before .before .before .before .before .make-part .kept .1 .1 .1 .1 .1 .1 .1 .1 .1 .1 .0 })
+    parts-next f (s .args .task) (s .args .from) (s .args .edge) (w .result) was (subst Yielded (sym (w .ensures)) (at-yields (floorOf (s .args .task .slots) (now (s .args .vertices)) (now (s .args .polygons))) (s .args .from .node) (s .args .edge) (s .args .kind))) at (l .k) (l .inv) (c .before .before .before .before .before .before .before .before .before .before .before .before .before .loop-test .taken) _ (c .before .before .before .before .before .before .before .before .make-part .ensures) (c .if1 .left) (record { floats-long = c .before .before .before .before .before .before .before .before .make-part .kept .1 .1 .1 .1 .1 .1 .1 .1 .0; words-long = c .before .before .before .before .before .before .before .before .make-part .kept .1 .1 .1 .1 .1 .1 .1 .1 .1 .0; queue-long = c .before .before .before .before .before .before .before .before .make-part .kept .1 .1 .1 .1 .1 .1 .1 .1 .1 .1 .0 })
 
 same-length-4 : tie.Need-same-length-4 Inv-loop μ-loop
 same-length-4 c = c .before .loop .inv .long .floats-long
@@ -111,7 +113,7 @@ returns-2 c =
     let w = c .before .before .walk-at in
     let l = c .before .loop in
     let at = stateOf (workOf (l .floats) (l .words) (l .tree)) (l .counts) in (
-      parts-over f (s .args .task) (s .args .from) (s .args .edge) (w .result) was (at-yields (floorOf (s .args .task .slots) (now (s .args .vertices)) (now (s .args .polygons))) (s .args .from .node) (s .args .edge) (s .args .kind) (w .ensures)) at (l .k) (l .inv) (c .loop-test .left)
+      parts-over f (s .args .task) (s .args .from) (s .args .edge) (w .result) was (subst Yielded (sym (w .ensures)) (at-yields (floorOf (s .args .task .slots) (now (s .args .vertices)) (now (s .args .polygons))) (s .args .from .node) (s .args .edge) (s .args .kind))) at (l .k) (l .inv) (c .loop-test .left)
           ∙ ap (λ x. madeAll f (s .args .task) was (s .args .from) (onEdge f (s .args .from) (s .args .edge) x)) (w .ensures),
       ap (λ x. x .kind) (w .ensures),
     )
