@@ -6,7 +6,7 @@ ghost use Prim.Native.Nat.{_≤_, min};
 ghost use lib.ListN.{length, replicate};
 ghost use Rattle.io.specs.Counts.{Counts};
 ghost use Rattle.says.specs.Words.{wordsOf};
-ghost use Rattle.line.specs.Line.{verdictLine, complaintOf};
+ghost use Rattle.line.specs.Line.{lineOf, verdictLine};
 use judge::Verdict;
 use libc::STDERR_FILENO;
 use libc::STDIN_FILENO;
@@ -112,22 +112,22 @@ fn is_over(fd: i32) -> bool {
 // What is said is a definition, and each function answers how many bytes it has. That they reach the stream can be stated of no
 // function: `io::write_all` promises nothing, since a stream may be closed or full.
 
-// The line of a verdict on standard output, as "22 3 not a permitted step".
+// The line of a verdict on standard output, as "22 at record 3: not a permitted step".
 pub fn say(verdict: Verdict) -> usize
     ensures { λ r. ⌜ r ≡ length (verdictLine verdict) ⌝ }
 {
     let mut room = [0u8; 128];
-    let n = line::lay_verdict(verdict, &mut room);
+    let n = line::lay(verdict.number(), says::verdict_at(verdict), &mut room);
     io::write_all(STDOUT_FILENO, &room[..n]);
     n
 }
 
-// The line of a search with no route on standard error, as "5 at record 1: a polygon's corners are wrong".
+// The line of a search with no route on standard error, in the same form.
 pub fn complain(number: u32, at: At) -> usize
-    ensures { λ r. ⌜ r ≡ length (complaintOf number at) ⌝ }
+    ensures { λ r. ⌜ r ≡ length (lineOf number at) ⌝ }
 {
     let mut room = [0u8; 128];
-    let n = line::lay_complaint(number, at, &mut room);
+    let n = line::lay(number, at, &mut room);
     io::write_all(STDERR_FILENO, &room[..n]);
     n
 }
