@@ -19,15 +19,18 @@ unfolding decimalOf decimalWithin bytesOf
 six-digits = refl
 
 pub said-of-a-step : verdictLine (Read (NotStep 3)) ≡ bytesOf "22 at record 3: not a permitted step\n"
-unfolding verdictLine verdictNumber verdictRecord judgedNumber judgedRecord atOf lineOf recordPart gapOf decimalOf decimalWithin wordsOf floorWordsOf routeWordsOf bytesOf
+unfolding verdictLine verdictNumber verdictRecord judgedNumber judgedRecord atOf
+    lineOf recordPart gapOf decimalOf decimalWithin wordsOf floorWordsOf routeWordsOf bytesOf
 said-of-a-step = refl
 
 pub said-of-a-length : verdictLine (Read Length) ≡ bytesOf "20: not 2 to 4,097 records of 32 bytes\n"
-unfolding verdictLine verdictNumber verdictRecord judgedNumber judgedRecord atOf lineOf recordPart gapOf decimalOf decimalWithin wordsOf floorWordsOf routeWordsOf bytesOf
+unfolding verdictLine verdictNumber verdictRecord judgedNumber judgedRecord atOf
+    lineOf recordPart gapOf decimalOf decimalWithin wordsOf floorWordsOf routeWordsOf bytesOf
 said-of-a-length = refl
 
 pub said-of-a-true-route : verdictLine (Read Accepted) ≡ bytesOf "0 accepted\n"
-unfolding verdictLine verdictNumber verdictRecord judgedNumber judgedRecord atOf lineOf recordPart gapOf decimalOf decimalWithin wordsOf floorWordsOf routeWordsOf bytesOf
+unfolding verdictLine verdictNumber verdictRecord judgedNumber judgedRecord atOf
+    lineOf recordPart gapOf decimalOf decimalWithin wordsOf floorWordsOf routeWordsOf bytesOf
 said-of-a-true-route = refl
 
 pub complained-of-corners : lineOf 5 (Record 1) ≡ bytesOf "5 at record 1: a polygon's corners are wrong\n"

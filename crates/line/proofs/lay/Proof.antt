@@ -1,10 +1,9 @@
 -- `line::lay` meets its contract: piece after piece, each behind the last. Assumes nothing.
-use mathlib.Core.Path.{_∙_}
 use native.Mathlib.Omega.{arith}
 use borrow.Author.Needs.{needs}
 use Rattle.says.specs.Words.{bytesOf}
 use Rattle.line.specs.Line.{lineOf}
-use Rattle.line.proofs.Pieces.{next, put-first, fitting}
+use Rattle.line.proofs.Pieces.{next, fitting}
 use Rattle.line.proofs.lay.Statement.{statement}
 use Rattle.line.proofs.lay.Tie as tie
 
@@ -21,8 +20,7 @@ returns c =
     let two = next 0 _ _ _ (omega arith) (number .0, number .1 .0) (recorded .0, recorded .1 .0) in
     let three = next 0 _ _ _ (omega arith) two (gap .0, gap .1 .0) in
     let four = next 0 _ _ _ (omega arith) three (words .0, words .1 .0) in
-    let five = next 0 _ _ _ (omega arith) four (c .put .ensures) in
-    fitting _ _ (omega (arith, five .0)) (five .1 ∙ put-first _ _)
+    fitting _ _ (next 0 _ _ _ (omega arith) four (c .put .ensures))
 
 pub lay-spec : {M : Type 1} → statement M
 lay-spec =
