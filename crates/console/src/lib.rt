@@ -1,5 +1,5 @@
-// What the programs share: room for each file, a file or standard input read whole into it, and a verdict, or a search with no
-// route, said in one line.
+// What the programs share: room for each file, a file or standard input read whole into it, a verdict, or a search with no
+// route, said in one line, and standard output that says when it fails.
 
 ghost use mathlib.Core.Path.{_≡_};
 ghost use Prim.Native.Nat.{_≤_, min};
@@ -110,7 +110,19 @@ fn is_over(fd: i32) -> bool {
 }
 
 // What is said is a definition, and each function answers how many bytes it has. That they reach the stream can be stated of no
-// function: `io::write_all` promises nothing, since a stream may be closed or full.
+// function: a stream may be closed or full.
+
+// Writes the bytes to standard output and answers how many they are. If not all go through, a line on standard error says so
+// and why, since a program in Rattle has no exit status.
+pub fn write_out(bytes: &[u8]) -> usize
+    ensures { λ r. ⌜ r ≡ length (now (bytes .entry)) ⌝ }
+{
+    if io::write_all(STDOUT_FILENO, bytes) {
+        return bytes.len();
+    }
+    os::fail(b"standard output could not be written");
+    bytes.len()
+}
 
 // The line of a verdict on standard output, as "22 at record 3: not a permitted step".
 pub fn say(verdict: Verdict) -> usize
@@ -118,8 +130,7 @@ pub fn say(verdict: Verdict) -> usize
 {
     let mut room = [0u8; 128];
     let n = line::lay(verdict.number(), says::verdict_at(verdict), &mut room);
-    io::write_all(STDOUT_FILENO, &room[..n]);
-    n
+    write_out(&room[..n])
 }
 
 // The line of a search with no route on standard error, in the same form.
@@ -132,12 +143,11 @@ pub fn complain(number: u32, at: At) -> usize
     n
 }
 
-// The words for a number, with no line end.
+// The words for a number on standard output, with no line end.
 pub fn say_words(number: u32) -> usize
     ensures { λ r. ⌜ r ≡ length (wordsOf number) ⌝ }
 {
     let mut room = [0u8; 64];
     let n = says::words(number, &mut room);
-    io::write_all(STDOUT_FILENO, &room[..n]);
-    n
+    write_out(&room[..n])
 }

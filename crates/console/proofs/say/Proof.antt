@@ -1,4 +1,5 @@
--- `console::say` lays the line of the verdict. Assumes nothing.
+-- `console::say` writes the line of the verdict and no more. Assumes nothing.
+use mathlib.Core.Path.{_∙_, sym}
 use borrow.Author.Needs.{needs}
 use Rattle.line.specs.Line.{verdictLine}
 use Rattle.console.proofs.say.Statement.{statement}
@@ -9,7 +10,8 @@ unfolding verdictLine
 returns c =
     let at-lay = c .before .before in
     let at-record = at-lay .before .before in
-    rw (← at-record .before .number .ensures, ← at-record .verdict-at .ensures) (at-lay .lay .ensures .0)
+    let laid = at-lay .lay .ensures in
+    rw (← at-record .before .number .ensures, ← at-record .verdict-at .ensures) (c .write-out .ensures ∙ sym (laid .1 .1 .1) ∙ laid .0)
 
 pub say-spec : {M : Type 1} → statement M
 say-spec =
