@@ -30,7 +30,7 @@ Read n = (rest : List ℕ) → digitsOf (decimalOf n ++ rest) ≡ decimalOf n ++
 
 read-more : (n : ℕ) → 10 ≤ n → Read (n / 10) → Read n
 read-more n h tenth rest =
-    rw (decimal-more n h, append-assoc, tenth, a-digit (n % 10) (omega arith) rest, append-assoc)
+    rw (decimal-more n h) (simp (append-assoc, tenth, a-digit (n % 10) (omega arith) rest))
 
 all-read : (n : ℕ) → Read n
 all-read n = by-tenths Read (λ m low rest. rw (decimal-one m low) (a-digit m low rest)) read-more (suc n) n (omega arith)

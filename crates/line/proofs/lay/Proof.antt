@@ -7,6 +7,7 @@ use Rattle.line.proofs.Pieces.{next, fitting}
 use Rattle.line.proofs.lay.Statement.{statement}
 use Rattle.line.proofs.lay.Tie as tie
 
+-- The answer is given part by part, so that a wrong line is refused where its bytes differ.
 returns : tie.Need-returns
 unfolding lineOf bytesOf
 returns c =
@@ -20,7 +21,8 @@ returns c =
     let two = next 0 _ _ _ (omega arith) (number .0, number .1 .0) (recorded .0, recorded .1 .0) in
     let three = next 0 _ _ _ (omega arith) two (gap .0, gap .1 .0) in
     let four = next 0 _ _ _ (omega arith) three (words .0, words .1 .0) in
-    fitting _ _ (next 0 _ _ _ (omega arith) four (c .put .ensures))
+    let whole = fitting _ _ (next 0 _ _ _ (omega arith) four (c .put .ensures)) in
+    (whole .0, whole .1)
 
 pub lay-spec : {M : Type 1} → statement M
 lay-spec =
