@@ -29,8 +29,11 @@ fn list(floor: Floor, question: &[u8], route: &[u8]) -> Result<Vec<(f32, f32)>, 
     }
 }
 
-fn say(number: u32) -> String {
-    format!("{number} {}", cart::words(number, &mut [0; WORDS_BYTES]))
+/// The number, the record where there is one, and the words: the line that the programs say.
+fn say(number: u32, record: Option<usize>) -> String {
+    let record = record.map_or(String::new(), |record| format!(" at record {record}"));
+    let gap = if number == 0 { " " } else { ": " };
+    format!("{number}{record}{gap}{}", cart::words(number, &mut [0; WORDS_BYTES]))
 }
 
 fn main() {
@@ -42,12 +45,12 @@ fn main() {
     let route = find(floor, question).expect("a route");
     let judged = cart::judge(floor, question, &route);
     let points = list(floor, question, &route).expect("an accepted route");
-    println!("found: {} bytes, judged: {}, points: {points:?}", route.len(), say(judged.number));
+    println!("found: {} bytes, judged: {}, points: {points:?}", route.len(), say(judged.number, judged.value));
     assert_eq!((route.len(), judged, &points[..]), (96, Answer { number: 0, value: None }, &[(3.0, 1.0)][..]));
 
     let cut = cart::judge(floor, question, &route[..64]);
-    println!("cut short: {}", say(cut.number));
+    println!("cut short: {}", say(cut.number, cut.value));
     let none = find(floor, &question[..15]).expect_err("a question of 15 bytes is refused");
-    println!("15 bytes: {}", say(none));
+    println!("15 bytes: {}", say(none, None));
     assert_eq!((cut, none), (Answer { number: 23, value: Some(1) }, 7));
 }

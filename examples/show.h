@@ -6,13 +6,13 @@
 /* What a record or a value is before a call that may write it. */
 static const size_t none = (size_t)-1;
 
-/* The number, the record where there is one, and the words: the line that judge_main writes. */
+/* The number, the record where there is one, and the words: the line that the programs say. */
 static void say(const char *what, uint32_t number, size_t record) {
     uint8_t words[CART_WORDS_BYTES];
     size_t count = cart_words(number, words);
-    printf("%s: %u ", what, (unsigned)number);
-    if (record != none) printf("%zu ", record);
-    printf("%.*s\n", (int)count, (const char *)words);
+    printf("%s: %u", what, (unsigned)number);
+    if (record != none) printf(" at record %zu", record);
+    printf("%s%.*s\n", number == 0 ? " " : ": ", (int)count, (const char *)words);
 }
 
 /* On one line. Answers whether they are just the goal, (3,1). The example's route has three records, and so at most three points. */

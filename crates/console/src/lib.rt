@@ -1,12 +1,12 @@
-// What the programs share: room for each file, a file or standard input read whole into it, and a verdict, or a search with no
-// route, said in one line.
+// What the programs share: room for each file, a file or standard input read whole into it, a verdict, or a search with no
+// route, said in one line, and standard output that says when it fails.
 
 ghost use mathlib.Core.Path.{_≡_};
 ghost use Prim.Native.Nat.{_≤_, min};
 ghost use lib.ListN.{length, replicate};
 ghost use Rattle.io.specs.Counts.{Counts};
 ghost use Rattle.says.specs.Words.{wordsOf};
-ghost use Rattle.line.specs.Line.{verdictLine, complaintOf};
+ghost use Rattle.line.specs.Line.{lineOf, verdictLine};
 use judge::Verdict;
 use libc::STDERR_FILENO;
 use libc::STDIN_FILENO;
@@ -110,34 +110,44 @@ fn is_over(fd: i32) -> bool {
 }
 
 // What is said is a definition, and each function answers how many bytes it has. That they reach the stream can be stated of no
-// function: `io::write_all` promises nothing, since a stream may be closed or full.
+// function: a stream may be closed or full.
 
-// The line of a verdict on standard output, as "22 3 not a permitted step".
+// Writes the bytes to standard output and answers how many they are. If not all go through, a line on standard error says so
+// and why, since a program in Rattle has no exit status.
+pub fn write_out(bytes: &[u8]) -> usize
+    ensures { λ r. ⌜ r ≡ length (now (bytes .entry)) ⌝ }
+{
+    if io::write_all(STDOUT_FILENO, bytes) {
+        return bytes.len();
+    }
+    os::fail(b"standard output could not be written");
+    bytes.len()
+}
+
+// The line of a verdict on standard output, as "22 at record 3: not a permitted step".
 pub fn say(verdict: Verdict) -> usize
     ensures { λ r. ⌜ r ≡ length (verdictLine verdict) ⌝ }
 {
     let mut room = [0u8; 128];
-    let n = line::lay_verdict(verdict, &mut room);
-    io::write_all(STDOUT_FILENO, &room[..n]);
-    n
+    let n = line::lay(verdict.number(), says::verdict_at(verdict), &mut room);
+    write_out(&room[..n])
 }
 
-// The line of a search with no route on standard error, as "5 at record 1: a polygon's corners are wrong".
+// The line of a search with no route on standard error, in the same form.
 pub fn complain(number: u32, at: At) -> usize
-    ensures { λ r. ⌜ r ≡ length (complaintOf number at) ⌝ }
+    ensures { λ r. ⌜ r ≡ length (lineOf number at) ⌝ }
 {
     let mut room = [0u8; 128];
-    let n = line::lay_complaint(number, at, &mut room);
+    let n = line::lay(number, at, &mut room);
     io::write_all(STDERR_FILENO, &room[..n]);
     n
 }
 
-// The words for a number, with no line end.
+// The words for a number on standard output, with no line end.
 pub fn say_words(number: u32) -> usize
     ensures { λ r. ⌜ r ≡ length (wordsOf number) ⌝ }
 {
     let mut room = [0u8; 64];
     let n = says::words(number, &mut room);
-    io::write_all(STDOUT_FILENO, &room[..n]);
-    n
+    write_out(&room[..n])
 }

@@ -42,7 +42,7 @@ pub decimal-more : (n : ℕ) → 10 ≤ n → decimalOf n ≡ decimalOf (n / 10)
 decimal-more n h = opened n h ∙ rw (enough n h)
 
 -- what holds of one digit, and of a number where it holds of its tenth, holds of every number
-by-tenths : (P : ℕ → Type 0) → ((n : ℕ) → n < 10 → P n) → ((n : ℕ) → 10 ≤ n → P (n / 10) → P n) → (bound n : ℕ) → n < bound → P n
+pub by-tenths : (P : ℕ → Type 0) → ((n : ℕ) → n < 10 → P n) → ((n : ℕ) → 10 ≤ n → P (n / 10) → P n) → (bound n : ℕ) → n < bound → P n
 by-tenths P one more zero n h = absurd (omega arith)
 by-tenths P one more (suc bound) n h = go (ltb n 10) refl (λ high. by-tenths P one more bound (n / 10) (omega arith))
   where

@@ -1,6 +1,6 @@
 -- Lines that are computed from the definitions, each as a person reads it. Assumes nothing.
 use mathlib.Core.Path.{_≡_, refl}
-use Rattle.route.specs.declared.Judged.the-variants.{Accepted, NotStep}
+use Rattle.route.specs.declared.Judged.the-variants.{Accepted, Length, NotStep}
 use Rattle.route.specs.Judge.{judgedNumber, judgedRecord}
 use Rattle.judge.specs.declared.Verdict.the-variants.{Read}
 use Rattle.judge.specs.Verdict.{verdictNumber, verdictRecord}
@@ -8,7 +8,7 @@ use Rattle.says.specs.declared.At.the-variants.{Record, Nowhere}
 use Rattle.says.specs.At.{atOf}
 use Rattle.says.specs.Words.{bytesOf, wordsOf, floorWordsOf, routeWordsOf}
 use Rattle.line.specs.Decimal.{decimalOf, decimalWithin}
-use Rattle.line.specs.Line.{recordPart, lineWith, lineOf, verdictLine, complaintOf}
+use Rattle.line.specs.Line.{recordPart, gapOf, lineOf, verdictLine}
 
 pub zero-is-one-digit : decimalOf 0 ≡ bytesOf "0"
 unfolding decimalOf decimalWithin bytesOf
@@ -18,22 +18,25 @@ pub six-digits : decimalOf 131105 ≡ bytesOf "131105"
 unfolding decimalOf decimalWithin bytesOf
 six-digits = refl
 
-pub step-of-record-3 : lineOf 22 (Record 3) ≡ bytesOf "22 3 not a permitted step\n"
-unfolding lineOf lineWith recordPart decimalOf decimalWithin wordsOf floorWordsOf routeWordsOf bytesOf
-step-of-record-3 = refl
-
-pub said-of-a-step : verdictLine (Read (NotStep 3)) ≡ bytesOf "22 3 not a permitted step\n"
-unfolding verdictLine verdictNumber verdictRecord judgedNumber judgedRecord atOf lineOf lineWith recordPart decimalOf decimalWithin wordsOf floorWordsOf routeWordsOf bytesOf
+pub said-of-a-step : verdictLine (Read (NotStep 3)) ≡ bytesOf "22 at record 3: not a permitted step\n"
+unfolding verdictLine verdictNumber verdictRecord judgedNumber judgedRecord atOf
+    lineOf recordPart gapOf decimalOf decimalWithin wordsOf floorWordsOf routeWordsOf bytesOf
 said-of-a-step = refl
 
+pub said-of-a-length : verdictLine (Read Length) ≡ bytesOf "20: not 2 to 4,097 records of 32 bytes\n"
+unfolding verdictLine verdictNumber verdictRecord judgedNumber judgedRecord atOf
+    lineOf recordPart gapOf decimalOf decimalWithin wordsOf floorWordsOf routeWordsOf bytesOf
+said-of-a-length = refl
+
 pub said-of-a-true-route : verdictLine (Read Accepted) ≡ bytesOf "0 accepted\n"
-unfolding verdictLine verdictNumber verdictRecord judgedNumber judgedRecord atOf lineOf lineWith recordPart decimalOf decimalWithin wordsOf floorWordsOf routeWordsOf bytesOf
+unfolding verdictLine verdictNumber verdictRecord judgedNumber judgedRecord atOf
+    lineOf recordPart gapOf decimalOf decimalWithin wordsOf floorWordsOf routeWordsOf bytesOf
 said-of-a-true-route = refl
 
-pub complained-of-corners : complaintOf 5 (Record 1) ≡ bytesOf "5 at record 1: a polygon's corners are wrong\n"
-unfolding complaintOf lineWith recordPart decimalOf decimalWithin wordsOf floorWordsOf routeWordsOf bytesOf
+pub complained-of-corners : lineOf 5 (Record 1) ≡ bytesOf "5 at record 1: a polygon's corners are wrong\n"
+unfolding lineOf recordPart gapOf decimalOf decimalWithin wordsOf floorWordsOf routeWordsOf bytesOf
 complained-of-corners = refl
 
-pub complained-of-a-start : complaintOf 8 Nowhere ≡ bytesOf "8: the start is in no polygon\n"
-unfolding complaintOf lineWith recordPart decimalOf decimalWithin wordsOf floorWordsOf routeWordsOf bytesOf
+pub complained-of-a-start : lineOf 8 Nowhere ≡ bytesOf "8: the start is in no polygon\n"
+unfolding lineOf recordPart gapOf decimalOf decimalWithin wordsOf floorWordsOf routeWordsOf bytesOf
 complained-of-a-start = refl

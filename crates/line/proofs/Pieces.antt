@@ -10,21 +10,10 @@ use Rattle.io.specs.Counts.{Counts}
 use Rattle.says.specs.Words.{laid}
 use Rattle.line.specs.Put.{putAt}
 
--- a piece at the front is laid there
-pub put-first : (text before : List ℕ) → putAt 0 text before ≡ laid text before
-unfolding putAt
-put-first text before = refl
-
--- and its bytes are those at the front
+-- the bytes of what is laid are those at the front
 pub front-is : (text before : List ℕ) {n : ℕ} {room : List ℕ} → n ≡ length text → room ≡ laid text before → take n room ≡ text
 unfolding laid
 front-is text before count front = rw (count, front, take-at text (drop (length text) before) (length text) refl)
-
--- what is laid is no longer than the room, and counts its bytes
-pub fitting : (text before : List ℕ) {n : ℕ} {room : List ℕ} → n ≡ length text → room ≡ laid text before → (n ≡ length text) × ((room ≡ laid text before) × Counts n room)
-unfolding laid
-fitting text before count front =
-    (count, (front, (rw front (simp length-append (omega (arith, count))), count ∙ ap length (sym (front-is text before count front)))))
 
 -- no piece
 pub put-nothing : (from : ℕ) (before : List ℕ) → before ≡ putAt from [] before
@@ -32,10 +21,15 @@ unfolding putAt laid
 put-nothing from before = rw take-append-drop
 
 -- a piece behind another
-pub put-both : (from : ℕ) (text more before : List ℕ) → from ≤ length before → putAt (from + length text) more (putAt from text before) ≡ putAt from (text ++ more) before
+pub put-both : (from : ℕ) (text more before : List ℕ) → from ≤ length before →
+    putAt (from + length text) more (putAt from text before) ≡ putAt from (text ++ more) before
 unfolding putAt laid
 put-both from text more before h =
-    rw (← append-assoc (take from before) text, take-at (take from before ++ text) _ (from + length text) there, drop-at (take from before ++ text) _ (from + length text) there)
+    rw (
+      ← append-assoc (take from before) text,
+      take-at (take from before ++ text) _ (from + length text) there,
+      drop-at (take from before ++ text) _ (from + length text) there,
+    )
     (simp (append-assoc, drop-drop, length-append, add-assoc))
   where
     there : length (take from before ++ text) ≡ from + length text
@@ -45,12 +39,22 @@ put-both from text more before h =
 abbrev pub Put : ℕ → List ℕ → List ℕ → ℕ → List ℕ → Type 0
 Put from text before n room = (n ≡ from + length text) × (room ≡ putAt from text before)
 
-pub next : (from : ℕ) (text more before : List ℕ) {n m : ℕ} {room after : List ℕ} → from ≤ length before → Put from text before n room → Put n more room m after → Put from (text ++ more) before m after
+pub next : (from : ℕ) (text more before : List ℕ) {n m : ℕ} {room after : List ℕ} → from ≤ length before →
+    Put from text before n room → Put n more room m after → Put from (text ++ more) before m after
 next from text more before h put behind =
     (simp length-append (omega (arith, put .0, behind .0)), behind .1 ∙ rw (put .0, put .1, put-both from text more before h))
 
+-- a text that was put from the front on is laid there, and its bytes are counted
+pub fitting : (text before : List ℕ) {n : ℕ} {room : List ℕ} → Put 0 text before n room → (n ≡ length text) × ((room ≡ laid text before) × Counts n room)
+unfolding putAt laid
+fitting text before {n} put =
+    let count : n ≡ length text = omega (arith, put .0) in
+    (count, (put .1, (rw (put .1) (simp length-append (omega (arith, count))), count ∙ ap length (sym (front-is text before count (put .1))))))
+
 -- a piece by way of the part of the room from its place on
-pub put-part : (from : ℕ) (text room : List ℕ) {part : List ℕ} → part ≡ take (length text) text ++ drop (length text) (take (length room - from) (drop from room)) → take from room ++ (part ++ drop (length room - from) (drop from room)) ≡ putAt from text room
+pub put-part : (from : ℕ) (text room : List ℕ) {part : List ℕ} →
+    part ≡ take (length text) text ++ drop (length text) (take (length room - from) (drop from room)) →
+    take from room ++ (part ++ drop (length room - from) (drop from room)) ≡ putAt from text room
 unfolding putAt laid
 put-part from text room e =
     rw (e, take-length, take-all (length room - from) (drop from room) whole, drop-of-length-le (drop from room) whole, append-nil)

@@ -1,11 +1,11 @@
 // Finds a route. It reads the floor from the files floor.vtx and floor.ply and the question from standard input, and writes
 // the route's bytes to standard output. On another number than 0 nothing goes there, and one plain line goes to standard
-// error, as "8: the start is in no polygon" or "5 at record 1: a polygon's corners are wrong".
+// error, as "8: the start is in no polygon" or "5 at record 1: a polygon's corners are wrong". A route that standard output
+// does not take whole is told there too.
 
 ghost use mathlib.Core.Path.{_≡_};
 ghost use lib.ListN.{length};
 use floor::Refusal;
-use libc::STDOUT_FILENO;
 use says::At;
 use search::Answer;
 
@@ -62,7 +62,7 @@ fn find(vertices: &mut [u8], polygons: &mut [u8], question: &mut [u8], out: &mut
 // A route that was found fits the output: that is a law (`found-fits`), and the test here never fails.
 fn write_route(out: &[u8], bytes: usize) {
     if bytes <= out.len() {
-        io::write_all(STDOUT_FILENO, &out[..bytes]);
+        console::write_out(&out[..bytes]);
     }
 }
 

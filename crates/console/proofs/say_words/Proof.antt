@@ -1,31 +1,24 @@
 -- `console::say_words` writes the words and no more. Assumes nothing.
-use mathlib.Core.Path.{sym}
+use mathlib.Core.Path.{_∙_, sym}
 use lib.Seq.{length-take-le}
 use borrow.Author.Needs.{needs}
 use Rattle.console.proofs.say_words.Statement.{statement}
 use Rattle.console.proofs.say_words.Tie as tie
 
-words-requires : tie.Need-words-requires
-words-requires c κs = search needs
-
-array-share-prefix-room : tie.Need-array-share-prefix-room
-array-share-prefix-room c = search needs
-
-slice-aggregate-write-all : tie.Need-slice-aggregate-write-all
-slice-aggregate-write-all c = sym (length-take-le _ _ (c .before .words .ensures .1 .1))
-
-write-all-requires : tie.Need-write-all-requires
-write-all-requires c κs = search needs
+slice-aggregate-write-out : tie.Need-slice-aggregate-write-out
+slice-aggregate-write-out c = sym (length-take-le _ _ (c .before .words .ensures .1 .1))
 
 returns : tie.Need-returns
-returns c = search needs
+returns c =
+    let words = c .before .before .words .ensures in
+    c .write-out .ensures ∙ length-take-le _ _ (words .1 .1) ∙ words .0
 
 pub say-words-spec : {M : Type 1} → statement M
 say-words-spec =
     tie.close
     (tie.spec
-    words-requires
-    array-share-prefix-room
-    slice-aggregate-write-all
-    write-all-requires
+    (λ c κs. search needs)
+    (λ c. search needs)
+    slice-aggregate-write-out
+    (λ c κs. search needs)
     returns)

@@ -1,34 +1,23 @@
 -- `line::put_record` meets its contract: each arm is the definition's case. Assumes nothing.
 use native.Mathlib.Omega.{arith}
 use borrow.Author.Needs.{needs}
+use Rattle.says.specs.Words.{bytesOf}
 use Rattle.line.specs.Line.{recordPart}
 use Rattle.line.proofs.Pieces.{next, put-nothing}
 use Rattle.line.proofs.put_record.Statement.{statement}
 use Rattle.line.proofs.put_record.Tie as tie
 
-enum-known-at : tie.Need-enum-known-at
-enum-known-at c = search needs
-
-put-requires : tie.Need-put-requires
-put-requires c κs = search needs
-
-put-decimal-requires : tie.Need-put-decimal-requires
-put-decimal-requires c κs = search needs
-
-enum-told : tie.Need-enum-told
-enum-told c = search needs
-
-same-length : tie.Need-same-length
-same-length c = search needs
-
 returns : tie.Need-returns
-unfolding recordPart
+unfolding recordPart bytesOf
 returns c =
-    let start = c .before .before .before .before .before .before .before .before .before .before .before .before .before in
-    let marked = c .before .before .before .before .before .before .put .ensures in
-    let counted = c .before .before .put-decimal .ensures in
+    let at-decimal = c .before .before in
+    let at-mark = at-decimal .before .before .before .before in
+    let arm = at-mark .before .before .before .before in
+    let start = arm .before .before .before in
+    let marked = at-mark .put .ensures in
+    let counted = at-decimal .put-decimal .ensures in
     let both = next (start .args .from) _ _ _ (omega arith) (marked .0, marked .1) (counted .0, counted .1 .0) in
-    rw (c .before .before .before .before .before .before .before .before .before .at .given .1) (both .0, (both .1, omega (arith, marked .0, counted .1 .1)))
+    rw (arm .at .given .1) (both .0, (both .1, omega (arith, marked .0, counted .1 .1)))
 
 returns-2 : tie.Need-returns-2
 unfolding recordPart
@@ -38,10 +27,11 @@ pub put-record-spec : {M : Type 1} → statement M
 put-record-spec =
     tie.close
     (tie.spec
-    enum-known-at
-    put-requires
-    put-decimal-requires
-    enum-told
-    same-length
+    (λ c. search needs)
+    (λ c. search needs)
+    (λ c κs. search needs)
+    (λ c κs. search needs)
+    (λ c. search needs)
+    (λ c. search needs)
     returns
     returns-2)

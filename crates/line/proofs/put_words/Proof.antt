@@ -31,7 +31,8 @@ returns c =
     let put = c .before .before .put .ensures in
     let words = c .before .before .before .before .before .words2 .ensures in
     let same = front-is _ _ (words .0) (words .1 .0) in
-    (rw same at (put .0), (rw same at (put .1), omega (arith, put .0, ap length same, at-most-64 (c .before .before .before .before .before .before .before .before .args .number))))
+    let start = c .before .before .before .before .before .before .before .before in
+    (rw same at (put .0), (rw same at (put .1), omega (arith, put .0, ap length same, at-most-64 (start .args .number))))
 
 pub put-words-spec : {M : Type 1} → statement M
 put-words-spec =
