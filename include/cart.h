@@ -2,6 +2,7 @@
 
    Link target/staticlib/libcart_c.a, which `rt staticlib cart_c` writes (for x86-64). examples/run builds and runs programs
    over it. Each function here is proved to answer as crates/cart_c says, on any bytes at all. cart.rs is this file for Rust.
+   docs/FORMATS.md has each byte of a floor, a question and a route.
 
    Bytes are little-endian, whatever the processor. The byte pointers need no alignment; every other pointer is aligned as its
    type is. A pointer must point to as many bytes (floats, words) as the length beside it says, also where that is 0 (then any

@@ -49,7 +49,8 @@ uint32_t geometry_in_bounding_box(uint32_t px, uint32_t py, uint32_t s0x, uint32
 /* A point mirrored at a line: out is its x, y. */
 void geometry_mirror(uint32_t px, uint32_t py, uint32_t l0x, uint32_t l0y, uint32_t l1x, uint32_t l1y, uint32_t out[2]);
 
-/* When a line meets a segment, as a fraction of the line. */
+/* Where a line meets a segment, as a fraction of the segment: 0 at its start, 1 at its end, below 0 or above 1 beyond them. Where f32
+   finds the two parallel it is an infinity or NaN. */
 uint32_t geometry_intersection_time(
     uint32_t l0x, uint32_t l0y, uint32_t l1x, uint32_t l1y, uint32_t s0x, uint32_t s0y, uint32_t s1x, uint32_t s1y);
 

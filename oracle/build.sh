@@ -1,18 +1,9 @@
-# Sourced by each script here and by those of bench, campaign and examples: the packages, the proved libraries, the workspace in
-# target/oracle/crates, and the builds in it. The extract's folder is the script's first argument.
+# Sourced by each script here but need.sh, and by those of bench and campaign: the packages, the workspace in target/oracle/crates, and the
+# builds in it. It installs the Debian packages that are missing. The extract's folder is the script's first argument.
 
-here=$(cd "$(dirname "${BASH_SOURCE[0]}")" && pwd)
-root=$(dirname "$here")
+source "$(dirname "${BASH_SOURCE[0]}")/need.sh"
 folder=${1:-$root/../shared/docs/src}
-out=$root/target/oracle
 crates=$out/crates
-processor=$(uname -m)
-mkdir -p "$out"
-
-fail() {
-    echo "oracle: $*" >&2
-    exit 2
-}
 
 as_root() {
     if [ "$(id -u)" = 0 ]; then "$@"; else sudo "$@"; fi
@@ -24,43 +15,17 @@ install_missing() { # PACKAGE...
         dpkg-query -W -f '${db:Status-Status}\n' "$package" 2>/dev/null | grep -qx installed || missing+=("$package")
     done
     [ ${#missing[@]} -gt 0 ] || return 0
-    echo "oracle: installing ${missing[*]}"
+    echo "$script: installing ${missing[*]}"
     as_root apt-get update -qq
     as_root env DEBIAN_FRONTEND=noninteractive apt-get install -qq --no-install-recommends "${missing[@]}" >"$out/apt.log" 2>&1 ||
         fail "apt-get could not install them ($out/apt.log says why)"
 }
 
-# The libraries for C, in target/staticlib.
-prove_libraries() { # CRATE...
-    local crate
-    for crate in "$@"; do
-        (cd "$root" && rt staticlib "$crate") >"$out/$crate.log" 2>&1 || fail "$crate is not proved ($out/$crate.log says why)"
-    done
-}
-
-# A C compiler for x86-64, for which alone rt writes a library. On another processor the kit's emulator runs its programs.
+# A C compiler for x86-64.
 install_c() {
-    emulator='' compiler=gcc
-    if [ "$processor" = x86_64 ]; then
-        install_missing gcc libc6-dev
-        return
-    fi
-    local kit=${RATTLE_HOME:-$(dirname "$(dirname "$(readlink -f "$(command -v rt)")")")}
-    emulator=$kit/on/$processor/toolchain/bin/qemu-x86_64
-    [ -x "$emulator" ] || fail "the kit has no emulator of x86-64 for $processor"
-    install_missing gcc-x86-64-linux-gnu libc6-dev-amd64-cross
-    compiler=x86_64-linux-gnu-gcc
-}
-
-compile() { # PROGRAM SOURCE CRATE...
-    local program=$1 source=$2
-    shift 2
-    "$compiler" -std=c99 -O2 -static -Wall -Wextra -Wpedantic -I "$root/include" -o "$program" "$source" -L "$root/target/staticlib" "${@/#/-l}"
-}
-
-# Debian 12 has a current compiler under the name rustc-web; later releases have it as rustc.
-web() {
-    if dpkg-query -W rustc-web >/dev/null 2>&1 || apt-cache show rustc-web >/dev/null 2>&1; then echo -web; fi
+    need_emulator
+    name_compiler
+    install_missing "${compiler_packages[@]}"
 }
 
 # A compiler for this machine's own programs, and the crates that the extract leans on.
@@ -81,8 +46,9 @@ install_x86() {
     emulator=''
     [ "$processor" != x86_64 ] || return 0
     dpkg --print-foreign-architectures | grep -qx amd64 || as_root dpkg --add-architecture amd64
-    install_missing "libstd-rust$(web)-dev:amd64" gcc-x86-64-linux-gnu libc6-dev-amd64-cross libc6:amd64 qemu-user
-    export CARGO_TARGET_X86_64_UNKNOWN_LINUX_GNU_LINKER=x86_64-linux-gnu-gcc
+    name_compiler
+    install_missing "libstd-rust$(web)-dev:amd64" "${compiler_packages[@]}" libc6:amd64 qemu-user
+    export CARGO_TARGET_X86_64_UNKNOWN_LINUX_GNU_LINKER=$compiler
     emulator=qemu-x86_64
 }
 
@@ -162,8 +128,8 @@ build_linked() { # PROGRAM
 # The module that a library is compiled from, kept as target/oracle/CRATE.bc. The kit's folder is laid once more for it, all of it by links
 # but for a compiler that keeps what it compiles.
 keep_module() { # CRATE
-    local kit laid=$out/kit tools=on/$processor/toolchain path
-    kit=${RATTLE_HOME:-$(dirname "$(dirname "$(readlink -f "$(command -v rt)")")")}
+    local laid=$out/kit tools=on/$processor/toolchain path
+    need_kit
     clang=$kit/$tools/bin/clang
     rm -rf "$laid"
     mkdir -p "$laid/$tools/bin"

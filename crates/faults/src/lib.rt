@@ -1,4 +1,5 @@
-// The tests 2 to 6, each of one list or one record.
+// The tests 2 to 7, each of one list, one record or the question. 7 is defined here; its code is `question_right` in the crate floor,
+// which asks `point_right` of start and goal.
 
 ghost use mathlib.Core.Path.{_≡_};
 ghost use Prim.Native.Nat.{_+_, _*_, _/_, _≤_, _<_, _^_};

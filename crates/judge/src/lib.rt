@@ -1,5 +1,5 @@
 // The judge: reads a route file against a floor and a question before a cart moves. Nothing is lent to it but what it reads;
-// it holds one node, the view out of it and the marks of the turn vertices.
+// it holds one node, what one edge of its polygon yields and the marks of the turn vertices.
 
 ghost use mathlib.Core.Path.{_≡_};
 ghost use Prim.Native.Nat.{_+_, _*_, _/_, _≤_, _<_, _^_};
