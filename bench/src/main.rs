@@ -13,6 +13,7 @@ use harness::halls::{Halls, Shape};
 
 #[path = "../compare/cart.rs"]
 mod cart;
+mod doors;
 mod hall;
 #[path = "../compare/lent.rs"]
 mod lent;
@@ -150,6 +151,8 @@ fn main() {
     }
     if words[0] == "limits" {
         stalls::print(&mut lent);
+        println!();
+        doors::print(&mut lent);
         println!();
         return pillars::print(&mut lent);
     }
