@@ -1,25 +1,28 @@
 //! Times the proved search beside the unchanged Rust's: the same floors and the same questions, in one run.
-//! `bench REPETITIONS` prints a table. `bench ours PLACE` asks each question of the floor at that place of the table once, of ours
-//! alone, all from one function, for a tool that counts instructions; it prints the floor and the counted steps.
+//! `bench REPETITIONS` prints a table, and which of the questions drawn are not in it. `bench ours PLACE` asks each question of the floor
+//! at that place of the table once, of ours alone, all from one function, for a tool that counts instructions; it prints the floor and the
+//! counted steps. `bench limits` counts what README's limits say.
 
+use std::collections::BTreeMap;
 use std::hint::black_box;
 use std::time::Instant;
 
 use glam::Vec2;
-use harness::floor::{question, Floor};
+use harness::floor::question;
 use harness::halls::{Halls, Shape};
-use harness::search01::BUDGET;
-use polyanya::Mesh;
 
 #[path = "../compare/cart.rs"]
 mod cart;
+mod doors;
+mod hall;
 #[path = "../compare/lent.rs"]
 mod lent;
+mod pillars;
+mod stalls;
 
-use lent::{Lengths, Lent};
+use hall::{Hall, Place};
+use lent::Lent;
 
-/// The places that the route program lends, and room for any route.
-const LENT: Lengths = Lengths::of(2047, cart::ROUTE_BYTES);
 /// Questions of a floor that both sides find a route for.
 const QUESTIONS: usize = 100;
 const SEED: u64 = 0xBE4C_0001;
@@ -36,15 +39,10 @@ const FLOORS: [(Shape, usize); 8] = [
     (Shape::Rings, 500),
 ];
 
-/// A point and its polygon.
-type Place = (Vec2, u32);
-
 struct Bench {
     shape: Shape,
-    floor: Floor,
-    /// The vertex list and the polygon list.
-    stored: (Vec<u8>, Vec<u8>),
-    mesh: Mesh,
+    hall: Hall,
+    drawn: Drawn,
     questions: Vec<(Place, Place)>,
     /// The route that ours finds for each.
     routes: Vec<Vec<u8>>,
@@ -54,34 +52,36 @@ struct Bench {
 
 impl Bench {
     fn new(number: usize, (shape, polygons): (Shape, usize), lent: &mut Lent) -> Bench {
-        let mut halls = Halls::new(SEED ^ (number as u64) << 32);
-        let floor = halls.floor(shape, polygons);
-        assert_eq!(floor.refused(), 0);
-        let (stored, mesh) = (floor.bytes(), floor.mesh());
+        let mut halls = drawn_by(number, 0);
+        let hall = Hall::new(halls.floor(shape, polygons));
         let least = vec![[f64::INFINITY; 5]; QUESTIONS];
-        let mut bench = Bench { shape, floor, stored, mesh, questions: Vec::new(), routes: Vec::new(), least };
+        let mut bench = Bench { shape, hall, drawn: Drawn::default(), questions: Vec::new(), routes: Vec::new(), least };
         while bench.questions.len() < QUESTIONS {
-            let ends = (halls.point(&bench.floor), halls.point(&bench.floor));
+            let ends = (halls.point(&bench.hall.floor), halls.point(&bench.hall.floor));
             bench.draw(ends, lent);
         }
         bench
     }
 
     fn name(&self) -> String {
-        format!("{} {:?}", self.floor.polygons.len(), self.shape).to_lowercase()
+        name(self.hall.floor.polygons.len(), self.shape)
     }
 
     fn draw(&mut self, (start, goal): (Vec2, Vec2), lent: &mut Lent) {
-        let (Some(from), Some(to)) = (self.floor.polygon_of(start), self.floor.polygon_of(goal)) else { return };
-        if from == to {
+        self.drawn.all += 1;
+        let Some(asked) = self.hall.ends(start, goal) else {
+            self.drawn.in_one += 1;
             return;
-        }
-        let asked = ((start, from), (goal, to));
-        lent.paint();
-        let told = lent.told(self.lists(), &question(start, goal), BUDGET, &LENT);
-        if told.number == 0 && self.mesh.path_between(asked.0, asked.1).is_some() {
+        };
+        let told = self.hall.told(lent, start, goal);
+        let rusts = self.hall.rusts(asked).is_some();
+        if told.number == 0 && rusts {
             self.questions.push(asked);
             self.routes.push(told.route);
+        } else {
+            let counts = self.drawn.left_out.entry(told.number).or_default();
+            let also = [true, self.hall.joined(asked), rusts];
+            counts.iter_mut().zip(also).for_each(|(count, holds)| *count += holds as usize);
         }
     }
 
@@ -98,20 +98,33 @@ impl Bench {
         let sum = |which: usize| self.least.iter().map(|times| times[which]).sum();
         Times { ours: sum(0), look: sum(1), ends: sum(2), rusts: sum(3), judge: sum(4) }
     }
+}
 
-    /// The number and the counted steps.
-    fn asked(&self, lent: &mut Lent, question: &[u8]) -> (u32, usize) {
-        let (answer, steps) = lent.search(self.lists(), question, BUDGET, &LENT);
-        (answer.number, steps)
-    }
+/// The questions that were drawn until there were enough to time.
+#[derive(Default)]
+struct Drawn {
+    all: usize,
+    /// Start and goal in one polygon.
+    in_one: usize,
+    /// By our number, those that one of the two has no route for: how many, in how many of them links lead from start to goal, and how many
+    /// the Rust finds.
+    left_out: BTreeMap<u32, [usize; 3]>,
+}
 
-    fn lists(&self) -> cart::Floor<'_> {
-        cart::Floor { vertices: &self.stored.0, polygons: &self.stored.1 }
+impl Drawn {
+    fn row(&self) -> String {
+        let told = |(number, [count, joined, rusts]): (&u32, &[usize; 3])| format!("   {number}: {count} ({joined} joined, the Rust finds {rusts})");
+        format!("{:>10}{:>10}{:>14}{}", self.all, QUESTIONS, self.in_one, self.left_out.iter().map(told).collect::<String>())
     }
+}
 
-    fn ours(&self, lent: &mut Lent, start: Vec2, goal: Vec2) -> (u32, usize) {
-        self.asked(lent, &question(start, goal))
-    }
+/// The floor at a place of the table is the first of the floors that are drawn there.
+fn drawn_by(place: usize, floor: u64) -> Halls {
+    Halls::new(SEED ^ (place as u64) << 32 ^ floor << 40)
+}
+
+fn name(polygons: usize, shape: Shape) -> String {
+    format!("{polygons} {shape:?}").to_lowercase()
 }
 
 /// Nanoseconds over all questions of a floor, of each the least of all repetitions.
@@ -136,7 +149,14 @@ fn main() {
         let bench = Bench::new(place, FLOORS[place], &mut lent);
         return println!("{}: {} questions, {} counted steps", bench.name(), bench.questions.len(), ask_all(&bench, &mut lent));
     }
-    let repetitions: usize = words[0].parse().expect("REPETITIONS, or the word ours");
+    if words[0] == "limits" {
+        stalls::print(&mut lent);
+        println!();
+        doors::print(&mut lent);
+        println!();
+        return pillars::print(&mut lent);
+    }
+    let repetitions: usize = words[0].parse().expect("REPETITIONS, or the word ours or limits");
     let mut benches: Vec<Bench> = FLOORS.iter().enumerate().map(|(place, &of)| Bench::new(place, of, &mut lent)).collect();
     // All floors in each repetition, so that a time at which the machine had other work falls on all of them alike.
     for _ in 0..repetitions {
@@ -145,12 +165,14 @@ fn main() {
     println!("{}", header());
     benches.iter().for_each(|bench| println!("{}", row(bench, &mut lent)));
     println!("Microseconds a question, nanoseconds a pop, a made node and a record: of each of {QUESTIONS} questions the least of {repetitions} calls.");
+    println!("\n{:<16}{:>10}{:>10}{:>14}   left out, by our number", "questions", "drawn", "timed", "one polygon");
+    benches.iter().for_each(|bench| println!("{:<16}{}", bench.name(), bench.drawn.row()));
 }
 
 /// The counted steps.
 #[inline(never)]
 fn ask_all(bench: &Bench, lent: &mut Lent) -> usize {
-    bench.questions.iter().map(|((start, _), (goal, _))| bench.ours(lent, *start, *goal).1).sum()
+    bench.questions.iter().map(|((start, _), (goal, _))| bench.hall.ours(lent, *start, *goal).1).sum()
 }
 
 fn header() -> String {
@@ -184,12 +206,13 @@ fn timed(bench: &Bench, place: usize, lent: &mut Lent) -> [f64; 5] {
     let asked = &bench.questions[place];
     let ((start, _), (goal, _)) = *asked;
     let short = &question(start, goal)[..15];
-    let ours = nanoseconds(|| bench.ours(lent, start, goal));
-    let look = nanoseconds(|| bench.asked(lent, short));
-    let at_start = nanoseconds(|| bench.ours(lent, start, start));
-    let at_goal = nanoseconds(|| bench.ours(lent, goal, goal));
-    let rusts = nanoseconds(|| bench.mesh.path_between(asked.0, asked.1));
-    let judge = nanoseconds(|| cart::judge(bench.lists(), &question(start, goal), &bench.routes[place]));
+    let hall = &bench.hall;
+    let ours = nanoseconds(|| hall.ours(lent, start, goal));
+    let look = nanoseconds(|| hall.asked(lent, short));
+    let at_start = nanoseconds(|| hall.ours(lent, start, start));
+    let at_goal = nanoseconds(|| hall.ours(lent, goal, goal));
+    let rusts = nanoseconds(|| hall.rusts(*asked));
+    let judge = nanoseconds(|| cart::judge(hall.lists(), &question(start, goal), &bench.routes[place]));
     [ours, look, (at_start + at_goal) / 2.0, rusts, judge]
 }
 
@@ -204,7 +227,7 @@ fn counted(bench: &Bench, lent: &mut Lent) -> (usize, usize) {
     let mut sums = (0, 0);
     for ((start, _), (goal, _)) in &bench.questions {
         lent.paint();
-        let (number, steps) = bench.ours(lent, *start, *goal);
+        let (number, steps) = bench.hall.ours(lent, *start, *goal);
         assert_eq!(number, 0);
         sums = (sums.0 + steps, sums.1 + lent.taken() - 1);
     }
@@ -212,12 +235,12 @@ fn counted(bench: &Bench, lent: &mut Lent) -> (usize, usize) {
 }
 
 fn rusts_counted(bench: &Bench) -> (usize, usize) {
-    let most = 10 * bench.floor.polygons.len();
+    let most = 10 * bench.hall.floor.polygons.len();
     let mut sums = (0, 0);
     for &(start, goal) in &bench.questions {
-        let (popped, path) = bench.mesh.searched(start, goal, None, most);
+        let (popped, path) = bench.hall.mesh.searched(start, goal, None, most);
         assert!(path.is_some());
-        sums = (sums.0 + popped.len(), sums.1 + bench.mesh.made(start, goal, most));
+        sums = (sums.0 + popped.len(), sums.1 + bench.hall.mesh.made(start, goal, most));
     }
     sums
 }

@@ -8,7 +8,7 @@ use crate::text::{self, asked, at, counted, floor, walled};
 use crate::{Shown, RULE};
 
 pub fn shown() -> Vec<Shown> {
-    vec![example(), chain(), wall(), larger_distance(), heap(), stall(), limit()]
+    vec![example(), far(), chain(), to_and_fro(), wall(), larger_distance(), heap(), stall(), limit()]
 }
 
 /// More pops than a search here needs that ends.
@@ -53,6 +53,30 @@ fn example() -> Shown {
     let words: Vec<[u32; 8]> = steps.iter().map(|step| step.words()).collect();
     assert_eq!(words, [[2, 1, 1, 4, 0x4000_0000, 0, 0x4000_0000, 0x4000_0000]]);
     Shown { agreed: true, ..question("Document 01's example", &floor, start, goal, false) }
+}
+
+/// As in examples/floors/far_from_origin, where the shortest way is 3.83 long: no difference, both routes go to the hall's far end and back.
+fn far() -> Shown {
+    let floor = floor(
+        &[
+            (108.0, 44.0), (132.0, 76.0), (100.0, 100.0), (76.0, 68.0), (100.6, 100.8), (130.0, 140.0), (114.0, 152.0), (60.0, 80.0), (132.6, 76.8),
+            (162.0, 116.0),
+        ],
+        &[&[0, 1, 2, 3], &[3, 2, 4, 5, 6, 7], &[8, 9, 5, 4]],
+    );
+    Shown { agreed: true, ..question("Far from the origin", &floor, at(100.2, 98.6), at(102.0, 101.0), false) }
+}
+
+/// Two rooms over a hall, and a third behind the second, whose border with the hall is two edges in one line with the corner where the way turns.
+fn to_and_fro() -> Shown {
+    let floor = floor(
+        &[
+            (0.0, -4.0), (16.0, -4.0), (16.0, 0.0), (10.0, 0.0), (8.0, 0.0), (4.0, 0.0), (0.0, 0.0), (4.0, 4.0), (0.0, 4.0), (16.0, 4.0), (10.0, 4.0),
+            (8.0, 4.0), (16.0, 5.0), (16.0, 8.0), (8.0, 8.0),
+        ],
+        &[&[6, 5, 7, 8], &[0, 1, 2, 3, 4, 5, 6], &[4, 3, 2, 9, 10, 11], &[11, 10, 12, 13, 14]],
+    );
+    question("No pruning: going back, the answer", &floor, at(2.0, 2.0), at(15.0, 6.0), false)
 }
 
 /// Four triangles in a row: the second has one way on, and so has the third.
