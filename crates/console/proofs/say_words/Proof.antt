@@ -17,8 +17,8 @@ pub say-words-spec : {M : Type 1} → statement M
 say-words-spec =
     tie.close
     (tie.spec
-    (λ c κs. search needs)
-    (λ c. search needs)
+    (search needs)
+    (search needs)
     slice-aggregate-write-out
-    (λ c κs. search needs)
+    (search needs)
     returns)
