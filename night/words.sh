@@ -40,7 +40,7 @@ lacking() {
 enter() { # FOLDER
     local folder=$1
     [[ $folder == /* ]] || folder=./$folder
-    CDPATH='' cd -- "$folder" 2>/dev/null
+    CDPATH='' cd -- "$folder"
 }
 
 # The tools of the machine that a command cannot do without.
