@@ -4,8 +4,7 @@
    comes back as 0x7FC00000. A segment is its start and its end. Each function is proved to answer as its crate says. None keeps
    anything between calls, takes heap or recurses. `out` is aligned as uint32_t is, overlaps nothing, and is written only where that is said.
 
-   Link target/staticlib/libgeometry_c.a, and libcone_c.a and libwalk_c.a for the last three (`rt staticlib geometry_c` and so on
-   write them, for x86-64). */
+   Link libgeometry_c.a, and libcone_c.a and libwalk_c.a for the last three, for x86-64: ./install puts them into lib/. */
 
 #ifndef GEOMETRY_H
 #define GEOMETRY_H

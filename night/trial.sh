@@ -134,7 +134,7 @@ moment() { # MILLISECONDS
 look_up() {
     local line
     sed -n 's/^| `\([^`]*\)` |.*/\1/p' installed/doc/AT-NIGHT.md |
-        sed 's/[][\.*^$+?(){}|]/\\&/g; s/FOLDER/.+/g; s/FILE/[a-z.]+/g; s/WHY/.+/g; s/TOOL/[a-z]+/g; s/\bN\b/[0-9]+/g' >patterns
+        sed 's/[][\.*^$+?(){}|]/\\&/g; s/FOLDER/.+/g; s/FILE/(floor\\.vtx|floor\\.ply|question|route|standard input)/g; s/WHY/.+/g; s/TOOL/[a-z]+/g; s/\bN\b/[0-9]+/g' >patterns
     [ -s patterns ] || { lost 'the night page' 'it has no lines'; return; }
     while read -r line; do
         if grep -qE -- "$line" said; then survived page; else lost 'the night page' "nothing said its line $line"; fi
