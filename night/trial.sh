@@ -55,7 +55,8 @@ judged() { # CART FILE
 
 # A cart with the new question and the old route.
 lay() { # CART
-    mkdir -p -- "$1" && cp new/floor.vtx new/floor.ply new/question "$1/" && cp old/route "$1/route" || stop "the cart $1 could not be laid"
+    mkdir -p -- "$1" && cp new/floor.vtx new/floor.ply new/question "$1/" && cp old/route "$1/route" && chmod 664 "$1/route" ||
+        stop "the cart $1 could not be laid"
 }
 
 # What the route of a cart is now.
@@ -100,7 +101,7 @@ run() { # COMMAND WORDS...
 met() { # FAULT CART STATUS STATE LINE
     local now
     now=$(state "$2")
-    if [ "$status" = "$3" ] && [ "$now" = "$4" ] && [[ $said == $5 ]] && [[ $said != *$'\n'* ]] && ! compgen -G "$2/.route.new.*" >/dev/null; then
+    if [ "$status" = "$3" ] && [ "$now" = "$4" ] && [[ $said == $5 ]] && [[ $said != *$'\n'* ]] && [ -z "$(find "$2" -maxdepth 1 -name ".route.new.*")" ]; then
         survived "$1"
     else
         lost "$1" "status $status, the route is the $now one, and it said: $said"
@@ -121,9 +122,9 @@ as_nobody() { # COMMAND WORDS...
     if [ "$(id -u)" = 0 ]; then setpriv --reuid=65534 --regid=65534 --clear-groups -- "$@"; else "$@"; fi
 }
 
-# A random moment, at most so long.
-moment() { # MILLISECONDS
-    local at=$((RANDOM * $1 / 32768))
+# A random moment between two.
+moment() { # MILLISECONDS MILLISECONDS
+    local at=$(($1 + RANDOM * ($2 - $1) / 32768))
     sleep "$((at / 1000)).$(printf '%03d' $((at % 1000)))"
 }
 
@@ -134,7 +135,8 @@ moment() { # MILLISECONDS
 look_up() {
     local line
     sed -n 's/^| `\([^`]*\)` |.*/\1/p' installed/doc/AT-NIGHT.md |
-        sed 's/[][\.*^$+?(){}|]/\\&/g; s/FOLDER/.+/g; s/FILE/(floor\\.vtx|floor\\.ply|question|route|standard input)/g; s/WHY/.+/g; s/TOOL/[a-z]+/g; s/\bN\b/[0-9]+/g' >patterns
+        sed -e 's/[][\.*^$+?(){}|]/\\&/g; s/FOLDER/.+/g; s/WHY/.+/g; s/TOOL/[a-z]+/g; s/\bN\b/[0-9]+/g' \
+            -e 's/FILE/(floor\\.vtx|floor\\.ply|question|route|standard input)/g' >patterns
     [ -s patterns ] || { lost 'the night page' 'it has no lines'; return; }
     while read -r line; do
         if grep -qE -- "$line" said; then survived page; else lost 'the night page' "nothing said its line $line"; fi
