@@ -55,7 +55,7 @@ judged() { # CART FILE
 
 # A cart with the new question and the old route.
 lay() { # CART
-    mkdir -p -- "$1" && cp new/floor.vtx new/floor.ply new/question "$1/" && cp old/route "$1/route" && chmod 664 "$1/route" ||
+    rm -rf -- "$1/route" && mkdir -p -- "$1" && cp new/floor.vtx new/floor.ply new/question "$1/" && cp old/route "$1/route" && chmod 664 "$1/route" ||
         stop "the cart $1 could not be laid"
 }
 
