@@ -1,10 +1,10 @@
 -- What a search hands to C: the number, the buffers, the counted steps and the value. Rests on `search`'s definition of the search. Assumes nothing.
 use Prim.Native.Nat.{ℕ}
 use mathlib.Core.List.{List}
-use Rattle.writing.specs.Answers.{answerNumber, answerSteps}
+use Rattle.writing.specs.Answers.{answerNumber, answerSteps, answerValues}
 use Rattle.places.specs.Layout.{Work}
 use Rattle.search.specs.Whole.{Searched}
-use Rattle.values.specs.Written.{valueWritten, answerValues}
+use Rattle.cart_c.specs.Written.{valueWritten}
 
 -- all that C sees after the call
 pub record Handed : Type 0 where

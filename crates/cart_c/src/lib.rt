@@ -4,14 +4,27 @@
 
 ghost use mathlib.Core.Path.{_≡_};
 ghost use lib.ListN.{length};
+ghost use Rattle.told.specs.Told.{valuesOf};
 ghost use Rattle.judge.specs.Verdict.{verdictOf, verdictNumber, verdictRecord};
 ghost use Rattle.readout.specs.Readout.{readoutOf, writtenOf, readoutNumber, readoutValues};
 ghost use Rattle.says.specs.Words.{wordsOf, laid};
-ghost use Rattle.says.specs.At.{atOf};
 ghost use Rattle.places.specs.Layout.{workOf};
 ghost use Rattle.search.specs.Whole.{searchOf};
-ghost use Rattle.values.specs.Written.{recordWritten, valueWritten};
 ghost use Rattle.cart_c.specs.Handed.{handedOf, handedBy};
+ghost use Rattle.cart_c.specs.Written.{valueWritten, atOf, recordWritten};
+use told::Told;
+
+// Writes what comes with a number: the record at fault, how many points are listed, or how long the route is. Where nothing comes,
+// what stood there stays.
+fn put(place: &mut usize, told: Told)
+    ensures { λ _. ⌜ now (place .exit) ≡ valueWritten (valuesOf told) (now (place .entry)) ⌝ }
+{
+    match told {
+        Told::Alone(_) => {}
+        Told::AtRecord(_, lowest) => *place = lowest,
+        Told::WithCount(_, count) => *place = count,
+    }
+}
 
 // Document 01's number: 0 where the route is accepted, else 2 to 9 or 20 to 23, and the record of 4, 5, 6, 21, 22 and 23.
 #[no_mangle]
@@ -25,9 +38,9 @@ pub extern "C" fn cart_judge(
     ensures { λ r. ⌜ r ≡ verdictNumber (verdictOf 8 (now (vertices .entry)) (now (polygons .entry)) (now (question .entry)) (now (route .entry))) ⌝ }
     ensures { λ _. ⌜ now (fault .exit) ≡ recordWritten (atOf (verdictRecord (verdictOf 8 (now (vertices .entry)) (now (polygons .entry)) (now (question .entry)) (now (route .entry))))) (now (fault .entry)) ⌝ }
 {
-    let verdict = judge::judge(vertices, polygons, question, route);
-    values::put(fault, says::verdict_at(verdict));
-    verdict.number()
+    let told = judge::judge(vertices, polygons, question, route).told();
+    put(fault, told);
+    told.number()
 }
 
 // Judges, then lists the points of an accepted route, x and y of each. Document 01's number: as cart_judge, or 13 where the
@@ -45,9 +58,9 @@ pub extern "C" fn cart_read_out(
     ensures { λ _. ⌜ now (points .exit) ≡ writtenOf 8 (now (vertices .entry)) (now (polygons .entry)) (now (question .entry)) (now (route .entry)) (now (points .entry)) ⌝ }
     ensures { λ _. ⌜ now (value .exit) ≡ valueWritten (readoutValues (readoutOf 8 (now (vertices .entry)) (now (polygons .entry)) (now (question .entry)) (now (route .entry)) (now (points .entry)))) (now (value .entry)) ⌝ }
 {
-    let readout = readout::read_out(vertices, polygons, question, route, points);
-    values::put_value(value, readout);
-    readout.number()
+    let told = readout::read_out(vertices, polygons, question, route, points).told();
+    put(value, told);
+    told.number()
 }
 
 // The words for a number at the front of the room, and how many bytes they take.
@@ -86,7 +99,8 @@ pub extern "C" fn cart_search(
         tree,
         out,
     );
-    *steps = values::steps_of(answer);
-    values::put_found(value, answer);
-    answer.number()
+    *steps = answer.steps();
+    let told = answer.told();
+    put(value, told);
+    told.number()
 }

@@ -4,10 +4,10 @@ use native.Mathlib.Omega.{arith}
 use mathlib.Core.Path.{_≡_, refl, sym, _∙_}
 use mathlib.Core.Bool.{Bool, true, false, cond, or-true}
 use mathlib.Core.Logic.{_⊎_, inl, inr, _↔_}
-use lib.Ieee.{Float, nan, inf, fin, binary32, add, sub, mul, lt}
+use lib.Ieee.{Float, nan, inf, fin, lt}
 use Rattle.point.specs.declared.Point.{Point}
 use Rattle.point.specs.declared.Segment.{Segment}
-use Rattle.point.specs.Point.{zero, one, slack, minusOf, plusOf, timesOf, lengthOf}
+use Rattle.point.specs.Point.{zero, one, slack, minusOf, plusOf, timesOf}
 use Rattle.cone.specs.declared.Cone.{Cone}
 use Rattle.cone.specs.declared.Part.{Part}
 use Rattle.cone.specs.declared.Cut.{Cut}
@@ -15,6 +15,7 @@ use Rattle.cone.specs.declared.Cut.the-variants.{Kept, Away}
 use Rattle.cone.specs.declared.Clipped.{Clipped}
 use Rattle.cone.specs.declared.Clipped.the-variants.{Seen, Nothing}
 use Rattle.cone.specs.Cone.{rayOf, coneOf, hasShortRayOf, fromRightOf, fromLeftOf, bothOutsideOf, raisedOf, loweredOf, cutOf, ifKept, partInsideOf, partOf, clipOf, clipToConeOf}
+use Rattle.cone.specs.Sight.{rightLength, leftLength, Unseen, outside-right, outside-left, crossed, ClipEnds}
 
 -- ---- one cone for many segments
 
@@ -24,13 +25,6 @@ unfolding clipToConeOf
 kept-cone-clips-the-same root cone segment = refl
 
 -- ---- short rays
-
--- the lengths of the rays from the root to the cone's ends
-abbrev pub rightLength : Point → Segment → Float
-rightLength root cone = lengthOf (minusOf (cone .0) root)
-
-abbrev pub leftLength : Point → Segment → Float
-leftLength root cone = lengthOf (minusOf (cone .1) root)
 
 -- 01, Geometry: "Cone clip: either ray shorter than 0.01 gives the segment back;"
 pub clip-short-ray : (root : Point) (cone segment : Segment) → (lt (rightLength root cone) slack ≡ true) ⊎ (lt (leftLength root cone) slack ≡ true) → clipToConeOf root cone segment ≡ Seen segment
@@ -67,29 +61,7 @@ pub cut-away : (part : Part) (start end : Float) → cutOf part start end ≡ Aw
 unfolding cutOf
 cut-away part start end = (away-by _ _ _ (bothOutsideOf start end) (lt start zero) (lt end zero), λ e. rw e)
 
--- ---- both rays: what the laws at the end speak of
-
--- Why nothing of a segment is seen.
-pub data Unseen (cone : Cone) (segment : Segment) : Type 0 where
-  outside-right : bothOutsideOf (fromRightOf cone (segment .0)) (fromRightOf cone (segment .1)) ≡ true → Unseen cone segment
-  outside-left : bothOutsideOf (fromLeftOf cone (segment .0)) (fromLeftOf cone (segment .1)) ≡ true → Unseen cone segment
-  crossed : {part : Part} → partInsideOf cone segment ≡ Kept part → lt (part .hi) (part .lo) ≡ true → Unseen cone segment
-
--- from + (to - from) * part, each operation rounded
-abbrev pub along : Float → Float → Float → Float
-along from to part = add binary32 from (mul binary32 (sub binary32 to from) part)
-
--- The ends of what is seen, coordinate by coordinate, for the lo and hi that the rays leave.
-pub record Ends (cone : Cone) (segment seen : Segment) : Type 0 where
-  pub part : Part
-  pub inside : partInsideOf cone segment ≡ Kept part
-  pub in-order : lt (part .hi) (part .lo) ≡ false
-  pub start-x : seen .0 .x ≡ along (segment .0 .x) (segment .1 .x) (part .lo)
-  pub start-y : seen .0 .y ≡ along (segment .0 .y) (segment .1 .y) (part .lo)
-  pub end-x : seen .1 .x ≡ along (segment .0 .x) (segment .1 .x) (part .hi)
-  pub end-y : seen .1 .y ≡ along (segment .0 .y) (segment .1 .y) (part .hi)
-
--- ---- their proofs
+-- ---- both rays
 
 not-nothing : {A : Type 0} {s : Segment} → Seen s ≡ Nothing → A
 not-nothing e = let z : _≡_ {A = ℕ} 0 1 = cc in absurd (omega arith)
@@ -129,7 +101,7 @@ module _ (cone : Cone) (segment : Segment) where
   nothing (outside-left h) = rw (away-left _ h)
   nothing (crossed e h) = rw (e, h)
 
-  ends : (seen : Segment) (cut : Cut) → partInsideOf cone segment ≡ cut → ifKept cut (seenPart segment) Nothing ≡ Seen seen → Ends cone segment seen
+  ends : (seen : Segment) (cut : Cut) → partInsideOf cone segment ≡ cut → ifKept cut (seenPart segment) Nothing ≡ Seen seen → ClipEnds cone segment seen
   unfolding partOf plusOf timesOf minusOf
   ends seen (Kept part) e h =
       let told = seen-by (lt (part .hi) (part .lo)) h in
@@ -148,5 +120,5 @@ module _ (root : Point) (cone segment : Segment) (right : lt (rightLength root c
   clip-nothing = rw past-the-rays (unseen (coneOf root cone) segment _ refl, nothing (coneOf root cone) segment)
 
   -- "Else segment.0 plus the difference times lo and times hi, even at 0 and 1."
-  pub clip-ends : (seen : Segment) → clipToConeOf root cone segment ≡ Seen seen → Ends (coneOf root cone) segment seen
+  pub clip-ends : (seen : Segment) → clipToConeOf root cone segment ≡ Seen seen → ClipEnds (coneOf root cone) segment seen
   clip-ends seen e = ends (coneOf root cone) segment seen _ refl (sym past-the-rays ∙ e)

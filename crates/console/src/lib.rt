@@ -6,12 +6,11 @@ ghost use Prim.Native.Nat.{_≤_, min};
 ghost use lib.ListN.{length, replicate};
 ghost use Rattle.io.specs.Counts.{Counts};
 ghost use Rattle.says.specs.Words.{wordsOf};
-ghost use Rattle.line.specs.Line.{lineOf, verdictLine};
-use judge::Verdict;
+ghost use Rattle.line.specs.Line.{lineOf};
 use libc::STDERR_FILENO;
 use libc::STDIN_FILENO;
 use libc::STDOUT_FILENO;
-use says::At;
+use told::Told;
 
 // Room for each file: a byte more than the longest that is allowed, so that a file that is too long has a wrong length here
 // too. The length is said beside the zeros, since lending an array as a slice asks for it.
@@ -124,21 +123,21 @@ pub fn write_out(bytes: &[u8]) -> usize
     bytes.len()
 }
 
-// The line of a verdict on standard output, as "22 at record 3: not a permitted step".
-pub fn say(verdict: Verdict) -> usize
-    ensures { λ r. ⌜ r ≡ length (verdictLine verdict) ⌝ }
+// The line of what is told on standard output, as "22 at record 3: not a permitted step".
+pub fn say(told: Told) -> usize
+    ensures { λ r. ⌜ r ≡ length (lineOf told) ⌝ }
 {
     let mut room = [0u8; 128];
-    let n = line::lay(verdict.number(), says::verdict_at(verdict), &mut room);
+    let n = line::lay(told, &mut room);
     write_out(&room[..n])
 }
 
-// The line of a search with no route on standard error, in the same form.
-pub fn complain(number: u32, at: At) -> usize
-    ensures { λ r. ⌜ r ≡ length (lineOf number at) ⌝ }
+// The same line on standard error.
+pub fn complain(told: Told) -> usize
+    ensures { λ r. ⌜ r ≡ length (lineOf told) ⌝ }
 {
     let mut room = [0u8; 128];
-    let n = line::lay(number, at, &mut room);
+    let n = line::lay(told, &mut room);
     io::write_all(STDERR_FILENO, &room[..n]);
     n
 }
@@ -147,7 +146,7 @@ pub fn complain(number: u32, at: At) -> usize
 pub fn say_words(number: u32) -> usize
     ensures { λ r. ⌜ r ≡ length (wordsOf number) ⌝ }
 {
-    let mut room = [0u8; 64];
-    let n = says::words(number, &mut room);
-    write_out(&room[..n])
+    let mut text = [0u8; 64];
+    let n = says::words(number, &mut text);
+    write_out(&text[..n])
 }

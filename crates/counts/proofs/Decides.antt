@@ -1,13 +1,13 @@
 -- A test g of each number decides a statement R of it, both ways. Then `every` decides that R holds of all, `first` at a test that fails gives the
 -- lowest number at fault, and `first` at the test itself the least of which R holds: said once, for any test and any statement. Assumes nothing.
-use Prim.Native.Nat.{ℕ, _≤_, _<_}
+use Prim.Native.Nat.{ℕ, _<_}
 use native.Mathlib.Nat.{lt-trans, lt-of-le-of-lt, le-of-lt, le-of-eq, le-antisymm, le-refl, lt-irrefl}
 use mathlib.Core.Path.{_≡_, refl, sym, ap, _∙_, subst}
 use mathlib.Core.Bool.{Bool, true, false, not}
 use mathlib.Core.Logic.{_↔_}
 use borrow.Author.Tests.{not-true, not-false}
 use lib.Dec.{T}
-use Rattle.counts.specs.Counts.{every, first, Lowest, Least}
+use Rattle.counts.specs.Counts.{every, first, Lowest, Least, TellsLowest}
 use Rattle.counts.proofs.Laws.{every-true, every-at, first-is, first-le, first-before, first-at, first-below}
 
 -- ---- one test
@@ -20,12 +20,6 @@ not-holds true d n = absurd (n (d .0 refl))
 not-holds false d n = refl
 
 -- ---- each of n
-
--- what an answer tells that names the lowest at fault, and n where there is none
-pub record Tells (n : ℕ) (R : ℕ → Type 0) (answer : ℕ) : Type 0 where
-  pub lowest : answer < n → Lowest n R answer
-  pub is-lowest : (m : ℕ) → Lowest n R m → answer ≡ m
-  pub none : n ≤ answer ↔ ((k : ℕ) → k < n → R k)
 
 module _ (n : ℕ) (g : ℕ → Bool) (R : ℕ → Type 0) (d : (k : ℕ) → k < n → g k ≡ true ↔ R k) where
   pub every-decides : every n g ≡ true ↔ ((k : ℕ) → k < n → R k)
@@ -51,7 +45,7 @@ module _ (n : ℕ) (g : ℕ → Bool) (R : ℕ → Type 0) (d : (k : ℕ) → k 
     (λ h. first-is n (λ k. not (g k)) n (le-refl n) (λ k l. ap not (d k l .1 (h k l))) (λ l. absurd (lt-irrefl n l))),
   )
 
-  pub first-tells-fault : Tells n R (first n (λ k. not (g k)))
+  pub first-tells-fault : TellsLowest n R (first n (λ k. not (g k)))
   first-tells-fault = record {
     lowest = first-is-lowest;
     is-lowest = lowest-is-first;

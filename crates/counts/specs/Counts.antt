@@ -1,8 +1,10 @@
 -- What holds of every number below n, of some, which is the first, and the list of what a function gives at each; and what it says to be the lowest at
 -- fault, or the least of which something holds. Definitions only. Assumes nothing.
-use Prim.Native.Nat.{ℕ, zero, suc, _<_}
+use Prim.Native.Nat.{ℕ, zero, suc, _≤_, _<_}
+use mathlib.Core.Path.{_≡_}
 use mathlib.Core.Bool.{Bool, true, false, _&&_, _||_, cond}
 use mathlib.Core.List.{List, [], _∷_, _++_}
+use mathlib.Core.Logic.{_↔_}
 use lib.Dec.{ltb}
 
 unfoldable pub every : ℕ → (ℕ → Bool) → Bool
@@ -36,3 +38,9 @@ pub record Least (n : ℕ) (R : ℕ → Type 0) (m : ℕ) : Type 0 where
   pub listed : m < n
   pub before : (k : ℕ) → k < m → R k → ⊥
   pub here : R m
+
+-- what an answer tells that names the lowest at fault, and n where there is none
+pub record TellsLowest (n : ℕ) (R : ℕ → Type 0) (answer : ℕ) : Type 0 where
+  pub lowest : answer < n → Lowest n R answer
+  pub is-lowest : (m : ℕ) → Lowest n R m → answer ≡ m
+  pub none : n ≤ answer ↔ ((k : ℕ) → k < n → R k)

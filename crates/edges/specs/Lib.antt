@@ -1,2 +1,3 @@
 -- What the contracts of `edges` cite.
 pub mod Where
+pub mod Ground

@@ -2,12 +2,14 @@
 // by being on a wall edge.
 
 ghost use mathlib.Core.Path.{_≡_};
-ghost use Prim.Native.Nat.{_≤_, _<_};
+ghost use Prim.Native.Nat.{_<_};
 ghost use Rattle.point.specs.declared.EdgeSide.the-variants.{Right};
 ghost use Rattle.point.specs.Sides.{sideOf, sameSideOf};
-ghost use Rattle.stored.specs.Stored.{polygonAt, floorOf, cornerCount, edge};
-ghost use Rattle.faults.specs.Accepted.{Accepted, Listed};
+ghost use Rattle.stored.specs.Stored.{recordIn, floorIn, cornerCount, edge};
+ghost use Rattle.faults.specs.Accepted.{Listed};
 ghost use Rattle.edges.specs.Where.{contains, polygonOf};
+ghost use Rattle.edges.specs.Ground.{Ground};
+use plan::PLAN;
 use point::EdgeSide;
 use point::Point;
 use point::Segment;
@@ -15,13 +17,13 @@ use point::Segment;
 pub mod turns;
 
 // Edge i of polygon p, from corner to corner.
-pub fn edge(vertices: &[u8], polygons: &[u8], slots: usize, p: usize, i: usize) -> Segment
-    requires { ⌜ Listed slots (now vertices) (now polygons) p ⌝ }
-    requires { ⌜ i < cornerCount (polygonAt slots (now polygons) p) ⌝ }
-    ensures { λ r. ⌜ r ≡ edge (floorOf slots (now (vertices .entry)) (now (polygons .entry))) p i ⌝ }
+pub fn edge(vertices: &[u8], polygons: &[u8], plan: &[u32; PLAN], p: usize, i: usize) -> Segment
+    requires { ⌜ Listed (now plan) (now vertices) (now polygons) p ⌝ }
+    requires { ⌜ i < cornerCount (recordIn (now plan) (now polygons) p) ⌝ }
+    ensures { λ r. ⌜ r ≡ edge (floorIn (now (plan .entry)) (now (vertices .entry)) (now (polygons .entry))) p i ⌝ }
 {
-    let a = stored::corner(polygons, slots, p, i) as usize;
-    let b = stored::corner_after(polygons, slots, p, i) as usize;
+    let a = stored::corner(polygons, plan, p, i) as usize;
+    let b = stored::corner_after(polygons, plan, p, i) as usize;
     let start = stored::used_vertex(vertices, a);
     let end = stored::used_vertex(vertices, b);
     Segment(start, end)
@@ -31,28 +33,34 @@ pub fn edge(vertices: &[u8], polygons: &[u8], slots: usize, p: usize, i: usize) 
 fn is_right(
     vertices: &[u8],
     polygons: &[u8],
-    slots: usize,
+    plan: &[u32; PLAN],
     p: usize,
     i: usize,
     point: Point,
 ) -> bool
-    requires { ⌜ Listed slots (now vertices) (now polygons) p ⌝ }
-    requires { ⌜ i < cornerCount (polygonAt slots (now polygons) p) ⌝ }
-    ensures { λ r. ⌜ r ≡ sameSideOf (sideOf point (edge (floorOf slots (now (vertices .entry)) (now (polygons .entry))) p i)) Right ⌝ }
+    requires { ⌜ Listed (now plan) (now vertices) (now polygons) p ⌝ }
+    requires { ⌜ i < cornerCount (recordIn (now plan) (now polygons) p) ⌝ }
+    ensures { λ r. ⌜ r ≡ sameSideOf (sideOf point (edge (floorIn (now (plan .entry)) (now (vertices .entry)) (now (polygons .entry))) p i)) Right ⌝ }
 {
-    let line = edge(vertices, polygons, slots, p, i);
+    let line = edge(vertices, polygons, plan, p, i);
     point::same_side(point.side(line), EdgeSide::Right)
 }
 
 // A polygon contains a point that is Right of none of its edges.
-pub fn contains(vertices: &[u8], polygons: &[u8], slots: usize, p: usize, point: Point) -> bool
-    requires { ⌜ Listed slots (now vertices) (now polygons) p ⌝ }
-    ensures { λ r. ⌜ r ≡ contains (floorOf slots (now (vertices .entry)) (now (polygons .entry))) point p ⌝ }
+pub fn contains(
+    vertices: &[u8],
+    polygons: &[u8],
+    plan: &[u32; PLAN],
+    p: usize,
+    point: Point,
+) -> bool
+    requires { ⌜ Listed (now plan) (now vertices) (now polygons) p ⌝ }
+    ensures { λ r. ⌜ r ≡ contains (floorIn (now (plan .entry)) (now (vertices .entry)) (now (polygons .entry))) point p ⌝ }
 {
-    let n = stored::corner_count(polygons, slots, p);
+    let n = stored::corner_count(polygons, plan, p);
     let mut i = 0;
     while i < n {
-        if is_right(vertices, polygons, slots, p, i, point) {
+        if is_right(vertices, polygons, plan, p, i, point) {
             return false;
         }
         i += 1;
@@ -61,14 +69,14 @@ pub fn contains(vertices: &[u8], polygons: &[u8], slots: usize, p: usize, point:
 }
 
 // The lowest-numbered polygon that contains a point, or the number of polygons.
-pub fn polygon_of(vertices: &[u8], polygons: &[u8], slots: usize, point: Point) -> usize
-    requires { ⌜ (0 < slots) × (slots ≤ 16) × Accepted (floorOf slots (now vertices) (now polygons)) ⌝ }
-    ensures { λ r. ⌜ r ≡ polygonOf (floorOf slots (now (vertices .entry)) (now (polygons .entry))) point ⌝ }
+pub fn polygon_of(vertices: &[u8], polygons: &[u8], plan: &[u32; PLAN], point: Point) -> usize
+    requires { ⌜ Ground (now plan) (now vertices) (now polygons) ⌝ }
+    ensures { λ r. ⌜ r ≡ polygonOf (floorIn (now (plan .entry)) (now (vertices .entry)) (now (polygons .entry))) point ⌝ }
 {
-    let n = stored::polygon_count(polygons, slots);
+    let n = plan::polygon_count(plan);
     let mut p = 0;
     while p < n {
-        if contains(vertices, polygons, slots, p, point) {
+        if contains(vertices, polygons, plan, p, point) {
             return p;
         }
         p += 1;

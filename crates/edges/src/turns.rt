@@ -1,89 +1,68 @@
-// The turn vertices, worked out once a call into 32 words: bit v % 32 of word v / 32 is set where vertex v is on a wall edge.
+// The turn vertices, marked in the plan once a look has found every corner right: the ends of each wall.
 
 ghost use mathlib.Core.Path.{_≡_};
-ghost use Prim.Native.Nat.{_*_, _/_, _≤_, _<_};
+ghost use Prim.Native.Nat.{ℕ, _≤_, _<_};
 ghost use lib.ListN.{length};
-ghost use Rattle.stored.specs.Stored.{polygonAt, floorOf, polygon, cornerCount};
-ghost use Rattle.faults.specs.Accepted.{Accepted, Listed};
-ghost use Rattle.edges.specs.Where.{isMarked, markVertex, markEdge, markEdges, markPolygons, marksOf};
+ghost use Rattle.plan.specs.Plan.{vertexCountIn, polygonCountIn};
+ghost use Rattle.stored.specs.Stored.{recordIn, polygonsIn, cornerCount, Lies, PolygonsPlanned};
+ghost use Rattle.faults.specs.Accepted.{Corners};
+ghost use Rattle.edges.specs.Where.{markEdge, markEdges, markPolygons, turnsMarked};
+use plan::PLAN;
+use plan::mark;
 use stored::UNUSED;
 use stored::corner;
 use stored::corner_after;
 use stored::corner_count;
 use stored::neighbour;
-use stored::polygon_count;
-
-// Whether vertex v is marked.
-pub fn turns(marks: &[u32; 32], v: usize) -> bool
-    requires { ⌜ v < 1024 ⌝ }
-    ensures { λ r. ⌜ r ≡ isMarked (now (marks .entry)) v ⌝ }
-{
-    (marks[v / 32] >> (v % 32)) % 2 == 1
-}
-
-// Marks vertex v.
-fn mark_vertex(marks: &mut [u32; 32], v: usize)
-    requires { ⌜ v < 1024 ⌝ }
-    ensures { λ _. ⌜ now (marks .exit) ≡ markVertex (now (marks .entry)) v ⌝ }
-{
-    let word = v / 32;
-    marks[word] = marks[word] | (1 << (v % 32));
-}
 
 // Marks both ends of edge i of polygon p, if it is a wall.
-fn mark_edge(
-    vertices: &[u8],
-    polygons: &[u8],
-    slots: usize,
-    p: usize,
-    i: usize,
-    marks: &mut [u32; 32],
-)
-    requires { ⌜ Listed slots (now vertices) (now polygons) p ⌝ }
-    requires { ⌜ (i < cornerCount (polygonAt slots (now polygons) p)) × (length (now vertices) / 8 ≤ 1024) ⌝ }
-    ensures { λ _. ⌜ now (marks .exit) ≡ markEdge (polygonAt slots (now (polygons .entry)) p) i (now (marks .entry)) ⌝ }
+fn mark_edge(polygons: &[u8], plan: &[u32; PLAN], p: usize, i: usize, marks: &mut [u32; PLAN])
+    requires { ⌜ Lies (now plan) (now polygons) p × (i < cornerCount (recordIn (now plan) (now polygons) p)) ⌝ }
+    requires { ⌜ Corners (vertexCountIn (now plan)) (recordIn (now plan) (now polygons) p) × (vertexCountIn (now plan) ≤ 1024) ⌝ }
+    ensures { λ _. ⌜ now (marks .exit) ≡ markEdge (recordIn (now (plan .entry)) (now (polygons .entry)) p) i (now (marks .entry)) ⌝ }
 {
-    if neighbour(polygons, slots, p, i) == UNUSED {
-        let a = corner(polygons, slots, p, i) as usize;
-        let b = corner_after(polygons, slots, p, i) as usize;
-        mark_vertex(marks, a);
-        mark_vertex(marks, b);
+    if neighbour(polygons, plan, p, i) == UNUSED {
+        let a = corner(polygons, plan, p, i) as usize;
+        let b = corner_after(polygons, plan, p, i) as usize;
+        mark(marks, a);
+        mark(marks, b);
     }
 }
 
 // Marks the ends of the walls of polygon p.
-fn mark_edges(vertices: &[u8], polygons: &[u8], slots: usize, p: usize, marks: &mut [u32; 32])
-    requires { ⌜ Listed slots (now vertices) (now polygons) p ⌝ }
-    requires { ⌜ length (now vertices) / 8 ≤ 1024 ⌝ }
-    ensures { λ _. ⌜ now (marks .exit) ≡ markEdges (polygonAt slots (now (polygons .entry)) p) (cornerCount (polygonAt slots (now (polygons .entry)) p)) (now (marks .entry)) ⌝ }
+fn mark_edges(polygons: &[u8], plan: &[u32; PLAN], p: usize, marks: &mut [u32; PLAN])
+    requires { ⌜ Lies (now plan) (now polygons) p ⌝ }
+    requires { ⌜ Corners (vertexCountIn (now plan)) (recordIn (now plan) (now polygons) p) × (vertexCountIn (now plan) ≤ 1024) ⌝ }
+    ensures { λ _. let q = recordIn (now (plan .entry)) (now (polygons .entry)) p in ⌜ now (marks .exit) ≡ markEdges q (cornerCount q) (now (marks .entry)) ⌝ }
 {
-    let n = corner_count(polygons, slots, p);
+    let n = corner_count(polygons, plan, p);
     let mut i = 0;
     while i < n {
-        mark_edge(vertices, polygons, slots, p, i, marks);
+        mark_edge(polygons, plan, p, i, marks);
         i += 1;
     }
 }
 
 // Marks the ends of the walls of every polygon.
-fn mark_polygons(vertices: &[u8], polygons: &[u8], slots: usize, marks: &mut [u32; 32])
-    requires { ⌜ (0 < slots) × (slots ≤ 16) × Accepted (floorOf slots (now vertices) (now polygons)) × (length (now vertices) / 8 ≤ 1024) ⌝ }
-    ensures { λ _. ⌜ now (marks .exit) ≡ markPolygons (floorOf slots (now (vertices .entry)) (now (polygons .entry))) (length (now (polygons .entry)) / (slots * 8)) (now (marks .entry)) ⌝ }
+fn mark_polygons(polygons: &[u8], plan: &[u32; PLAN], marks: &mut [u32; PLAN])
+    requires { ⌜ PolygonsPlanned (now plan) (now polygons) × (vertexCountIn (now plan) ≤ 1024) ⌝ }
+    requires { ⌜ ((p : ℕ) → p < polygonCountIn (now plan) → Corners (vertexCountIn (now plan)) (recordIn (now plan) (now polygons) p)) ⌝ }
+    ensures { λ _. ⌜ now (marks .exit) ≡ turnsMarked (polygonsIn (now (plan .entry)) (now (polygons .entry))) (now (marks .entry)) ⌝ }
 {
-    let n = polygon_count(polygons, slots);
+    let n = plan::polygon_count(plan);
     let mut p = 0;
     while p < n {
-        mark_edges(vertices, polygons, slots, p, marks);
+        mark_edges(polygons, plan, p, marks);
         p += 1;
     }
 }
 
-// The turn vertices of an accepted floor.
-pub fn turn_vertices(vertices: &[u8], polygons: &[u8], slots: usize) -> [u32; 32]
-    requires { ⌜ (0 < slots) × (slots ≤ 16) × Accepted (floorOf slots (now vertices) (now polygons)) × (length (now vertices) / 8 ≤ 1024) ⌝ }
-    ensures { λ r. ⌜ r ≡ marksOf (floorOf slots (now (vertices .entry)) (now (polygons .entry))) ⌝ }
+// The plan with its floor's turn vertices. It is read as it was laid.
+pub fn mark_turns(polygons: &[u8], plan: &mut [u32; PLAN])
+    requires { ⌜ PolygonsPlanned (now plan) (now polygons) × (vertexCountIn (now plan) ≤ 1024) ⌝ }
+    requires { ⌜ ((p : ℕ) → p < polygonCountIn (now plan) → Corners (vertexCountIn (now plan)) (recordIn (now plan) (now polygons) p)) ⌝ }
+    ensures { λ _. ⌜ now (plan .exit) ≡ turnsMarked (polygonsIn (now (plan .entry)) (now (polygons .entry))) (now (plan .entry)) ⌝ }
 {
-    let mut marks = [0u32; 32];
-    mark_polygons(vertices, polygons, slots, &mut marks);
-    marks
+    let laid = *plan;
+    mark_polygons(polygons, &laid, plan);
 }

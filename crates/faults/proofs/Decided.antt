@@ -73,12 +73,12 @@ pub listed-decided : (n : ℕ) (p : Polygon) → cornersListed n p ≡ true ↔ 
 unfolding cornersListed
 listed-decided n p = every-decides (cornerCount p) (λ i. ltb (corner p i) n) (λ i. corner p i < n) (λ i l. (ltb-true (corner p i) n, lt-ltb (corner p i) n))
 
-pub corners-decided : (f : Floor) (p : Polygon) → cornersRight (length (f .vertices)) p ≡ true ↔ Corners f p
+pub corners-decided : (count : ℕ) (p : Polygon) → cornersRight count p ≡ true ↔ Corners count p
 unfolding cornersRight
-corners-decided f p =
+corners-decided count p =
     through
     (both (leb-true 3 (cornerCount p), le-leb 3 (cornerCount p))
-    (both (rest-decided (corner p) (length (p .corners)) (cornerCount p)) (both (distinct-decided p) (listed-decided (length (f .vertices)) p))))
+    (both (rest-decided (corner p) (length (p .corners)) (cornerCount p)) (both (distinct-decided p) (listed-decided count p))))
     (λ h. record { three = h .0; rest = h .1 .0; distinct = h .1 .1 .0; listed = h .1 .1 .1 })
     (λ r. (r .three, (r .rest, (r .distinct, r .listed))))
 
@@ -93,7 +93,7 @@ module _ (f : Floor) (p i : ℕ) where
   q = neighbour (polygon f p) i
 
   -- "Q is another listed polygon with an edge (b,a) that names P"
-  back-is : (not (eqb q p) && (isListed f q && namesBack (polygon f q) p (corner (polygon f p) i) (cornerAfter (polygon f p) i))) ≡ true ↔ Back f p i q
+  back-is : (not (eqb q p) && (isListed (f .polygons) q && namesBack (polygon f q) p (corner (polygon f p) i) (cornerAfter (polygon f p) i))) ≡ true ↔ Back f p i q
   unfolding isListed namesBack
   back-is =
       through
@@ -111,7 +111,7 @@ module _ (f : Floor) (p i : ℕ) where
         ),
       ))
 
-  pub link-decided : linkRight f p i ≡ true ↔ ((neighbour (polygon f p) i ≡ unused) ⊎ Back f p i (neighbour (polygon f p) i))
+  pub link-decided : linkRight (f .polygons) p i ≡ true ↔ ((neighbour (polygon f p) i ≡ unused) ⊎ Back f p i (neighbour (polygon f p) i))
   unfolding linkRight q
   link-decided = (
     (λ h. ⊎-elim (λ e. inl (eqb-true q unused e)) (λ e. inr (back-is .0 e)) (or-true (eqb q unused) _ h)),
@@ -122,11 +122,11 @@ module _ (f : Floor) (p i : ℕ) where
       or-right true b e = refl
       or-right false b e = e
 
-pub links-decided : (f : Floor) (p : ℕ) → linksRight f p ≡ true ↔ Links f p
+pub links-decided : (f : Floor) (p : ℕ) → linksRight (f .polygons) p ≡ true ↔ Links f p
 unfolding linksRight
 links-decided f p =
     through
-    (both (every-decides (cornerCount (polygon f p)) (linkRight f p) (λ i. (neighbour (polygon f p) i ≡ unused) ⊎ Back f p i (neighbour (polygon f p) i)) (λ i l. link-decided f p i))
+    (both (every-decides (cornerCount (polygon f p)) (linkRight (f .polygons) p) (λ i. (neighbour (polygon f p) i ≡ unused) ⊎ Back f p i (neighbour (polygon f p) i)) (λ i l. link-decided f p i))
     (rest-decided (neighbour (polygon f p)) (length (polygon f p .neighbours)) (cornerCount (polygon f p))))
     (λ h. record { linked = h .0; rest = h .1 })
     (λ r. (r .linked, r .rest))

@@ -1,5 +1,5 @@
 -- Document 01, "The floor, as stored": what an accepted floor is, in its words. The tests decide just this (proofs/Decided). Assumes nothing.
-use Prim.Native.Nat.{ℕ, _*_, _/_, _≤_, _<_}
+use Prim.Native.Nat.{ℕ, _≤_, _<_}
 use mathlib.Core.Path.{_≡_}
 use mathlib.Core.Bool.{true}
 use mathlib.Core.List.{List}
@@ -8,7 +8,8 @@ use lib.ListN.{length, getD}
 use lib.Ieee.{le, neg}
 use Rattle.point.specs.declared.Point.{Point}
 use Rattle.point.specs.Point.{limit}
-use Rattle.stored.specs.Stored.{Floor, Polygon, polygonAt, floorOf, unused, origin, corner, neighbour, cornerCount, cornerAfter, polygon}
+use Rattle.plan.specs.Plan.{vertexCountIn, polygonCountIn}
+use Rattle.stored.specs.Stored.{Floor, Polygon, unused, origin, corner, neighbour, cornerCount, cornerAfter, polygon, recordIn, VerticesPlanned, PolygonsPlanned}
 
 -- "Coordinates are finite, of magnitude at most 16,384."
 pub record InRange (p : Point) : Type 0 where
@@ -18,11 +19,11 @@ pub record InRange (p : Point) : Type 0 where
   pub y-high : le (p .y) limit ≡ true
 
 -- "Unused slots hold 0xFFFFFFFF and stand after the used ones. 3 to 8 corners, distinct, each below the vertex count."
-pub record Corners (f : Floor) (p : Polygon) : Type 0 where
+pub record Corners (count : ℕ) (p : Polygon) : Type 0 where
   pub three : 3 ≤ cornerCount p
   pub rest : (i : ℕ) → cornerCount p ≤ i → i < length (p .corners) → corner p i ≡ unused
   pub distinct : (i j : ℕ) → i < j → j < cornerCount p → corner p i ≡ corner p j → ⊥
-  pub listed : (i : ℕ) → i < cornerCount p → corner p i < length (f .vertices)
+  pub listed : (i : ℕ) → i < cornerCount p → corner p i < count
 
 -- "if P names Q across edge (a,b), then Q is another listed polygon with an edge (b,a) that names P."
 pub record Back (f : Floor) (p i : ℕ) (q : ℕ) : Type 0 where
@@ -41,14 +42,14 @@ pub record Links (f : Floor) (p : ℕ) : Type 0 where
 
 pub record Accepted (f : Floor) : Type 0 where
   pub vertices : (v : ℕ) → v < length (f .vertices) → InRange (getD (f .vertices) v origin)
-  pub corners : (p : ℕ) → p < length (f .polygons) → Corners f (polygon f p)
+  pub corners : (p : ℕ) → p < length (f .polygons) → Corners (length (f .vertices)) (polygon f p)
   pub links : (p : ℕ) → p < length (f .polygons) → Links f p
 
 -- ---- below the door
 
--- what a function on a polygon of a floor asks: the polygon is listed, and its corners are right
-pub record Listed (slots : ℕ) (vertices polygons : List ℕ) (p : ℕ) : Type 0 where
-  pub some : 0 < slots
-  pub few : slots ≤ 16
-  pub listed : p < length polygons / (slots * 8)
-  pub corners : Corners (floorOf slots vertices polygons) (polygonAt slots polygons p)
+-- what a function on a polygon of a floor asks: the plan is of these lists, the polygon is listed, and its corners are right
+pub record Listed (plan vertices polygons : List ℕ) (p : ℕ) : Type 0 where
+  pub vertices-planned : VerticesPlanned plan vertices
+  pub polygons-planned : PolygonsPlanned plan polygons
+  pub listed : p < polygonCountIn plan
+  pub corners : Corners (vertexCountIn plan) (recordIn plan polygons p)

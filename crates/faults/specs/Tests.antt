@@ -9,7 +9,7 @@ use lib.Ieee.{Float, neg, le}
 use Rattle.counts.specs.Counts.{every, some}
 use Rattle.point.specs.declared.Point.{Point}
 use Rattle.point.specs.Point.{limit}
-use Rattle.stored.specs.Stored.{Floor, Polygon, questionOf, unused, corner, neighbour, cornerCount, cornerAfter, polygon, isListed}
+use Rattle.stored.specs.Stored.{Polygon, questionOf, unused, corner, neighbour, cornerCount, cornerAfter, polygonIn, isListed}
 
 -- ---- 2 and 3: the lists' lengths
 
@@ -59,16 +59,17 @@ unfoldable pub namesBack : Polygon → ℕ → ℕ → ℕ → Bool
 namesBack q p a b = some (cornerCount q) (isBack q p a b)
 
 -- "if P names Q across edge (a,b), then .." : across edge i stands a wall, or such a Q
-unfoldable pub linkRight : Floor → ℕ → ℕ → Bool
-linkRight f p i =
-    let q = neighbour (polygon f p) i in
-    eqb q unused || (not (eqb q p) && (isListed f q && namesBack (polygon f q) p (corner (polygon f p) i) (cornerAfter (polygon f p) i)))
+unfoldable pub linkRight : List Polygon → ℕ → ℕ → Bool
+linkRight polygons p i =
+    let here = polygonIn polygons p in
+    let q = neighbour here i in
+    eqb q unused || (not (eqb q p) && (isListed polygons q && namesBack (polygonIn polygons q) p (corner here i) (cornerAfter here i)))
 
 -- "unused corners have unused neighbours."
-unfoldable pub linksRight : Floor → ℕ → Bool
-linksRight f p =
-    let n = cornerCount (polygon f p) in
-    every n (linkRight f p) && restUnused (neighbour (polygon f p)) (length (polygon f p .neighbours)) n
+unfoldable pub linksRight : List Polygon → ℕ → Bool
+linksRight polygons p =
+    let here = polygonIn polygons p in
+    every (cornerCount here) (linkRight polygons p) && restUnused (neighbour here) (length (here .neighbours)) (cornerCount here)
 
 -- ---- 7: the question
 

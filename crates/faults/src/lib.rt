@@ -2,19 +2,20 @@
 // which asks `point_right` of start and goal.
 
 ghost use mathlib.Core.Path.{_≡_};
-ghost use Prim.Native.Nat.{_+_, _*_, _/_, _≤_, _<_, _^_};
+ghost use Prim.Native.Nat.{_+_, _*_, _/_, _≤_, _<_};
 ghost use lib.Dec.{eqb, ltb};
 ghost use lib.ListN.{length};
 ghost use Rattle.counts.specs.Counts.{every};
-ghost use Rattle.stored.specs.Stored.{unused, floorOf, slotAt, polygonAt, cornerCount};
+ghost use Rattle.plan.specs.Plan.{slotsIn, vertexCountIn, polygonCountIn};
+ghost use Rattle.stored.specs.Stored.{unused, slotIn, recordIn, polygonIn, polygonsIn, cornerCount, Lies, PolygonsPlanned};
 ghost use Rattle.faults.specs.Tests.{lengthRight, coordinateRight, pointRight, restUnused, unlikeEarlier, distinct, cornersListed, cornersRight, isBack, namesBack, linkRight, linksRight};
+use plan::PLAN;
 use point::Point;
 use stored::UNUSED;
 use stored::corner;
 use stored::corner_after;
 use stored::corner_count;
 use stored::neighbour;
-use stored::polygon_count;
 use stored::slot;
 
 // 2 and 3: whole records of a size, from 1 to a limit.
@@ -46,14 +47,14 @@ fn is_unused(slot: u32) -> bool
 }
 
 // 5 and 6: of the slots of one kind, which begin at a slot, every one from the n-th on is unused.
-fn rest_unused(polygons: &[u8], slots: usize, p: usize, begin: usize, n: usize) -> bool
-    requires { ⌜ (slots ≤ 16) × (begin ≤ slots) × (n ≤ slots) × (p < length (now polygons) / (slots * 8)) ⌝ }
-    ensures { λ r. ⌜ r ≡ restUnused (λ i. slotAt slots (now (polygons .entry)) p (begin + i)) slots n ⌝ }
+fn rest_unused(polygons: &[u8], plan: &[u32; PLAN], p: usize, begin: usize, n: usize) -> bool
+    requires { ⌜ Lies (now plan) (now polygons) p × (begin ≤ slotsIn (now plan)) × (n ≤ slotsIn (now plan)) ⌝ }
+    ensures { λ r. ⌜ r ≡ restUnused (λ i. slotIn (now (plan .entry)) (now (polygons .entry)) p (begin + i)) (slotsIn (now (plan .entry))) n ⌝ }
 {
-    let rest = slots - n;
+    let rest = plan::slots(plan) - n;
     let mut i = 0;
     while i < rest {
-        if !is_unused(slot(polygons, slots, p, begin + (n + i))) {
+        if !is_unused(slot(polygons, plan, p, begin + (n + i))) {
             return false;
         }
         i += 1;
@@ -62,14 +63,14 @@ fn rest_unused(polygons: &[u8], slots: usize, p: usize, begin: usize, n: usize) 
 }
 
 // Corner j is none of the corners before it.
-fn unlike_earlier(polygons: &[u8], slots: usize, p: usize, j: usize) -> bool
-    requires { ⌜ (slots ≤ 16) × (j < slots) × (p < length (now polygons) / (slots * 8)) ⌝ }
-    ensures { λ r. ⌜ r ≡ unlikeEarlier (polygonAt slots (now (polygons .entry)) p) j ⌝ }
+fn unlike_earlier(polygons: &[u8], plan: &[u32; PLAN], p: usize, j: usize) -> bool
+    requires { ⌜ Lies (now plan) (now polygons) p × (j < slotsIn (now plan)) ⌝ }
+    ensures { λ r. ⌜ r ≡ unlikeEarlier (recordIn (now (plan .entry)) (now (polygons .entry)) p) j ⌝ }
 {
-    let last = corner(polygons, slots, p, j);
+    let last = corner(polygons, plan, p, j);
     let mut i = 0;
     while i < j {
-        if corner(polygons, slots, p, i) == last {
+        if corner(polygons, plan, p, i) == last {
             return false;
         }
         i += 1;
@@ -78,13 +79,13 @@ fn unlike_earlier(polygons: &[u8], slots: usize, p: usize, j: usize) -> bool
 }
 
 // 5: the n corners are distinct, by number.
-fn corners_distinct(polygons: &[u8], slots: usize, p: usize, n: usize) -> bool
-    requires { ⌜ (slots ≤ 16) × (n ≤ slots) × (p < length (now polygons) / (slots * 8)) × (n ≡ cornerCount (polygonAt slots (now polygons) p)) ⌝ }
-    ensures { λ r. ⌜ r ≡ distinct (polygonAt slots (now (polygons .entry)) p) ⌝ }
+fn corners_distinct(polygons: &[u8], plan: &[u32; PLAN], p: usize, n: usize) -> bool
+    requires { ⌜ Lies (now plan) (now polygons) p × (n ≤ slotsIn (now plan)) × (n ≡ cornerCount (recordIn (now plan) (now polygons) p)) ⌝ }
+    ensures { λ r. ⌜ r ≡ distinct (recordIn (now (plan .entry)) (now (polygons .entry)) p) ⌝ }
 {
     let mut j = 0;
     while j < n {
-        if !unlike_earlier(polygons, slots, p, j) {
+        if !unlike_earlier(polygons, plan, p, j) {
             return false;
         }
         j += 1;
@@ -99,13 +100,14 @@ fn is_below(number: u32, count: usize) -> bool
 }
 
 // 5: each of the n corners is below the vertex count.
-fn corners_listed(polygons: &[u8], slots: usize, p: usize, n: usize, count: usize) -> bool
-    requires { ⌜ (slots ≤ 16) × (n ≤ slots) × (p < length (now polygons) / (slots * 8)) × (n ≡ cornerCount (polygonAt slots (now polygons) p)) ⌝ }
-    ensures { λ r. ⌜ r ≡ cornersListed count (polygonAt slots (now (polygons .entry)) p) ⌝ }
+fn corners_listed(polygons: &[u8], plan: &[u32; PLAN], p: usize, n: usize) -> bool
+    requires { ⌜ Lies (now plan) (now polygons) p × (n ≤ slotsIn (now plan)) × (n ≡ cornerCount (recordIn (now plan) (now polygons) p)) ⌝ }
+    ensures { λ r. ⌜ r ≡ cornersListed (vertexCountIn (now (plan .entry))) (recordIn (now (plan .entry)) (now (polygons .entry)) p) ⌝ }
 {
+    let count = plan::vertex_count(plan);
     let mut i = 0;
     while i < n {
-        if !is_below(corner(polygons, slots, p, i), count) {
+        if !is_below(corner(polygons, plan, p, i), count) {
             return false;
         }
         i += 1;
@@ -114,38 +116,38 @@ fn corners_listed(polygons: &[u8], slots: usize, p: usize, n: usize, count: usiz
 }
 
 // 5: from 3 corners on, the unused slots behind them, distinct, each below the vertex count.
-pub fn corners_right(polygons: &[u8], slots: usize, p: usize, count: usize) -> bool
-    requires { ⌜ (slots ≤ 16) × (p < length (now polygons) / (slots * 8)) ⌝ }
-    ensures { λ r. ⌜ r ≡ cornersRight count (polygonAt slots (now (polygons .entry)) p) ⌝ }
+pub fn corners_right(polygons: &[u8], plan: &[u32; PLAN], p: usize) -> bool
+    requires { ⌜ PolygonsPlanned (now plan) (now polygons) × (p < polygonCountIn (now plan)) ⌝ }
+    ensures { λ r. ⌜ r ≡ cornersRight (vertexCountIn (now (plan .entry))) (polygonIn (polygonsIn (now (plan .entry)) (now (polygons .entry))) p) ⌝ }
 {
-    let n = corner_count(polygons, slots, p);
+    let n = corner_count(polygons, plan, p);
     3 <= n
-        && (rest_unused(polygons, slots, p, 0, n)
-            && (corners_distinct(polygons, slots, p, n)
-                && corners_listed(polygons, slots, p, n, count)))
+        && (rest_unused(polygons, plan, p, 0, n)
+            && (corners_distinct(polygons, plan, p, n) && corners_listed(polygons, plan, p, n)))
 }
 
 // Edge j of polygon q runs from b to a and has p across it.
-fn is_back(polygons: &[u8], slots: usize, q: usize, p: u32, a: u32, b: u32, j: usize) -> bool
-    requires { ⌜ (slots ≤ 16) × (j < slots) × (q < length (now polygons) / (slots * 8)) ⌝ }
-    ensures { λ r. ⌜ r ≡ isBack (polygonAt slots (now (polygons .entry)) q) p a b j ⌝ }
+fn is_back(polygons: &[u8], plan: &[u32; PLAN], q: usize, p: u32, a: u32, b: u32, j: usize) -> bool
+    requires { ⌜ Lies (now plan) (now polygons) q × (j < slotsIn (now plan)) ⌝ }
+    ensures { λ r. ⌜ r ≡ isBack (recordIn (now (plan .entry)) (now (polygons .entry)) q) p a b j ⌝ }
 {
-    corner(polygons, slots, q, j) == b
-        && (corner_after(polygons, slots, q, j) == a && neighbour(polygons, slots, q, j) == p)
+    corner(polygons, plan, q, j) == b
+        && (corner_after(polygons, plan, q, j) == a && neighbour(polygons, plan, q, j) == p)
 }
 
 // 6: one of q's edges runs from b to a and has p across it. The look ends at q's first unused slot, so that its
 // corners are not counted for every link.
-fn names_back(polygons: &[u8], slots: usize, q: usize, p: u32, a: u32, b: u32) -> bool
-    requires { ⌜ (slots ≤ 16) × (q < length (now polygons) / (slots * 8)) ⌝ }
-    ensures { λ r. ⌜ r ≡ namesBack (polygonAt slots (now (polygons .entry)) q) p a b ⌝ }
+fn names_back(polygons: &[u8], plan: &[u32; PLAN], q: usize, p: u32, a: u32, b: u32) -> bool
+    requires { ⌜ Lies (now plan) (now polygons) q ⌝ }
+    ensures { λ r. ⌜ r ≡ namesBack (recordIn (now (plan .entry)) (now (polygons .entry)) q) p a b ⌝ }
 {
+    let slots = plan::slots(plan);
     let mut j = 0;
     while j < slots {
-        if is_unused(corner(polygons, slots, q, j)) {
+        if is_unused(corner(polygons, plan, q, j)) {
             return false;
         }
-        if is_back(polygons, slots, q, p, a, b, j) {
+        if is_back(polygons, plan, q, p, a, b, j) {
             return true;
         }
         j += 1;
@@ -154,11 +156,11 @@ fn names_back(polygons: &[u8], slots: usize, q: usize, p: u32, a: u32, b: u32) -
 }
 
 // 6: across edge i of polygon p stands a wall, or another listed polygon that names p back.
-fn link_right(vertices: &[u8], polygons: &[u8], slots: usize, p: usize, i: usize) -> bool
-    requires { ⌜ (0 < slots) × (slots ≤ 16) × (i < slots) × (p < length (now polygons) / (slots * 8)) × (p < 2 ^ 32) ⌝ }
-    ensures { λ r. ⌜ r ≡ linkRight (floorOf slots (now (vertices .entry)) (now (polygons .entry))) p i ⌝ }
+fn link_right(polygons: &[u8], plan: &[u32; PLAN], p: usize, i: usize) -> bool
+    requires { ⌜ PolygonsPlanned (now plan) (now polygons) × (p < polygonCountIn (now plan)) × (i < slotsIn (now plan)) ⌝ }
+    ensures { λ r. ⌜ r ≡ linkRight (polygonsIn (now (plan .entry)) (now (polygons .entry))) p i ⌝ }
 {
-    let q = neighbour(polygons, slots, p, i);
+    let q = neighbour(polygons, plan, p, i);
     if q == UNUSED {
         return true;
     }
@@ -166,22 +168,22 @@ fn link_right(vertices: &[u8], polygons: &[u8], slots: usize, p: usize, i: usize
     if q == p {
         return false;
     }
-    if polygon_count(polygons, slots) <= q {
+    if plan::polygon_count(plan) <= q {
         return false;
     }
-    let a = corner(polygons, slots, p, i);
-    let b = corner_after(polygons, slots, p, i);
-    names_back(polygons, slots, q, p as u32, a, b)
+    let a = corner(polygons, plan, p, i);
+    let b = corner_after(polygons, plan, p, i);
+    names_back(polygons, plan, q, p as u32, a, b)
 }
 
 // 6: each of the n edges' links.
-fn all_linked(vertices: &[u8], polygons: &[u8], slots: usize, p: usize, n: usize) -> bool
-    requires { ⌜ (0 < slots) × (slots ≤ 16) × (n ≤ slots) × (p < length (now polygons) / (slots * 8)) × (p < 2 ^ 32) ⌝ }
-    ensures { λ r. ⌜ r ≡ every n (linkRight (floorOf slots (now (vertices .entry)) (now (polygons .entry))) p) ⌝ }
+fn all_linked(polygons: &[u8], plan: &[u32; PLAN], p: usize, n: usize) -> bool
+    requires { ⌜ PolygonsPlanned (now plan) (now polygons) × (p < polygonCountIn (now plan)) × (n ≤ slotsIn (now plan)) ⌝ }
+    ensures { λ r. ⌜ r ≡ every n (linkRight (polygonsIn (now (plan .entry)) (now (polygons .entry))) p) ⌝ }
 {
     let mut i = 0;
     while i < n {
-        if !link_right(vertices, polygons, slots, p, i) {
+        if !link_right(polygons, plan, p, i) {
             return false;
         }
         i += 1;
@@ -190,10 +192,10 @@ fn all_linked(vertices: &[u8], polygons: &[u8], slots: usize, p: usize, n: usize
 }
 
 // 6: every link, and no neighbour in a slot that has no corner.
-pub fn links_right(vertices: &[u8], polygons: &[u8], slots: usize, p: usize) -> bool
-    requires { ⌜ (0 < slots) × (slots ≤ 16) × (p < length (now polygons) / (slots * 8)) × (p < 2 ^ 32) ⌝ }
-    ensures { λ r. ⌜ r ≡ linksRight (floorOf slots (now (vertices .entry)) (now (polygons .entry))) p ⌝ }
+pub fn links_right(polygons: &[u8], plan: &[u32; PLAN], p: usize) -> bool
+    requires { ⌜ PolygonsPlanned (now plan) (now polygons) × (p < polygonCountIn (now plan)) ⌝ }
+    ensures { λ r. ⌜ r ≡ linksRight (polygonsIn (now (plan .entry)) (now (polygons .entry))) p ⌝ }
 {
-    let n = corner_count(polygons, slots, p);
-    all_linked(vertices, polygons, slots, p, n) && rest_unused(polygons, slots, p, slots, n)
+    let n = corner_count(polygons, plan, p);
+    all_linked(polygons, plan, p, n) && rest_unused(polygons, plan, p, plan::slots(plan), n)
 }

@@ -11,8 +11,8 @@ use mathlib.Core.Logic.{_↔_}
 use borrow.Author.Tests.{ltb-true, ltb-false, lt-ltb, le-ltb, leb-true, leb-false, le-leb, lt-leb, not-true, not-false}
 use lib.Dec.{T, ltb, leb}
 use lib.ListN.{length, getD}
-use Rattle.counts.specs.Counts.{first, Least}
-use Rattle.counts.proofs.Decides.{Tells, holds-not, not-holds, every-decides, first-tells-fault, first-is-least, least-is-first, some-is-so}
+use Rattle.counts.specs.Counts.{first, Least, TellsLowest}
+use Rattle.counts.proofs.Decides.{holds-not, not-holds, every-decides, first-tells-fault, first-is-least, least-is-first, some-is-so}
 use Rattle.float.proofs.Tests.{untrue}
 use Rattle.point.specs.declared.Point.{Point}
 use Rattle.point.specs.declared.EdgeSide.{EdgeSide}
@@ -28,7 +28,7 @@ use Rattle.stored.specs.Stored.{Floor, origin, floorOf, questionOf, polygon, ed
 use Rattle.faults.specs.Tests.{lengthRight, pointRight, cornersRight, linksRight, questionRight}
 use Rattle.faults.specs.Accepted.{Links, Accepted}
 use Rattle.edges.specs.Where.{contains, polygonOf}
-use Rattle.floor.specs.Look.{badVertex, badCorners, badLinks, floorLookOf, askIf, askOf, lookOf}
+use Rattle.floor.specs.Look.{badVertex, badCorners, badLinks, recordsLookOf, cornersLookOf, linksLookOf, andThen, floorLookOf, askIf, askOf, lookOf}
 use Rattle.floor.specs.Exactly.{Whole, Lists, VertexRight, CornersRight, Asked, Contains, InSome, FloorCase, Case}
 use Rattle.faults.proofs.Decided.{both, through, equal, length-decided, point-decided, corners-decided, links-decided}
 
@@ -50,17 +50,17 @@ side-decided Right = ((λ e _. untrue e), (λ n. absurd (n refl)))
 side-decided Edge = ((λ _ e. subst (λ (s : EdgeSide). T (not (sameSideOf s Right))) e tt), (λ _. refl))
 
 module _ (f : Floor) where
-  pub vertices-told : Tells (length (f .vertices)) (VertexRight f) (badVertex f)
+  pub vertices-told : TellsLowest (length (f .vertices)) (VertexRight f) (badVertex (f .vertices))
   unfolding badVertex
   vertices-told = first-tells-fault (length (f .vertices)) (λ v. pointRight (getD (f .vertices) v origin)) (VertexRight f) (λ v l. point-decided (getD (f .vertices) v origin))
 
-  pub corners-told : Tells (length (f .polygons)) (CornersRight f) (badCorners f)
+  pub corners-told : TellsLowest (length (f .polygons)) (CornersRight f) (badCorners (length (f .vertices)) (f .polygons))
   unfolding badCorners
-  corners-told = first-tells-fault (length (f .polygons)) (λ p. cornersRight (length (f .vertices)) (polygon f p)) (CornersRight f) (λ p l. corners-decided f (polygon f p))
+  corners-told = first-tells-fault (length (f .polygons)) (λ p. cornersRight (length (f .vertices)) (polygon f p)) (CornersRight f) (λ p l. corners-decided (length (f .vertices)) (polygon f p))
 
-  pub links-told : Tells (length (f .polygons)) (Links f) (badLinks f)
+  pub links-told : TellsLowest (length (f .polygons)) (Links f) (badLinks (f .polygons))
   unfolding badLinks
-  links-told = first-tells-fault (length (f .polygons)) (linksRight f) (Links f) (λ p l. links-decided f p)
+  links-told = first-tells-fault (length (f .polygons)) (linksRight (f .polygons)) (Links f) (λ p l. links-decided f p)
 
   module _ (point : Point) where
     pub contains-decided : (p : ℕ) → contains f point p ≡ true ↔ Contains f point p
@@ -83,7 +83,7 @@ module _ (f : Floor) where
 
 -- ---- what is given is in its case, test by test
 
-when : {A : Type 0} (P : A → Type 0) (test : Bool) (x : A) {y : A} → (test ≡ true → P x) → (test ≡ false → P y) → P (cond test x y)
+pub when : {A : Type 0} (P : A → Type 0) (test : Bool) (x : A) {y : A} → (test ≡ true → P x) → (test ≡ false → P y) → P (cond test x y)
 when P true x t e = t refl
 when P false x t e = e refl
 
@@ -103,18 +103,23 @@ module _ (s : ℕ) (vs ps : List ℕ) where
   f = floorOf s vs ps
 
   floor-given : FloorCase s vs ps (floorLookOf s vs ps)
-  unfolding floorLookOf
+  unfolding floorLookOf cornersLookOf recordsLookOf linksLookOf
   floor-given =
-      when (FloorCase s vs ps) (not (lengthRight 8 1024 vs)) (Faulty VertexLength) (λ e. holds-not (whole-decided 8 1024 vs) (not-true _ e)) (λ a.
-      let v = whole-decided 8 1024 vs .0 (not-false _ a) in
-      when (FloorCase s vs ps) (not (lengthRight (s * 8) 512 ps)) (Faulty PolygonLength) (λ e. (v, holds-not (whole-decided (s * 8) 512 ps) (not-true _ e))) (λ b.
-      let lists : Lists s vs ps = record { vertices-whole = v; polygons-whole = whole-decided (s * 8) 512 ps .0 (not-false _ b) } in
-      when (FloorCase s vs ps) (ltb (badVertex f) (length (f .vertices))) (Faulty (Vertex (badVertex f))) (λ e. (lists, vertices-told f .lowest (ltb-true _ _ e))) (λ c.
+      let v = badVertex (f .vertices) in
+      let p = badCorners (length (f .vertices)) (f .polygons) in
+      let q = badLinks (f .polygons) in
+      let P : FloorLook → Type 0 = λ a. FloorCase s vs ps (andThen a (linksLookOf (f .polygons))) in
+      when P (not (lengthRight 8 1024 vs)) (Faulty VertexLength) (λ e. holds-not (whole-decided 8 1024 vs) (not-true _ e)) (λ a.
+      let w = whole-decided 8 1024 vs .0 (not-false _ a) in
+      when P (not (lengthRight (s * 8) 512 ps)) (Faulty PolygonLength) (λ e. (w, holds-not (whole-decided (s * 8) 512 ps) (not-true _ e))) (λ b.
+      let lists : Lists s vs ps = record { vertices-whole = w; polygons-whole = whole-decided (s * 8) 512 ps .0 (not-false _ b) } in
+      when P (ltb v (length (f .vertices))) (Faulty (Vertex v)) (λ e. (lists, vertices-told f .lowest (ltb-true _ _ e))) (λ c.
       let vertices = vertices-told f .none .0 (ltb-false _ _ c) in
-      when (FloorCase s vs ps) (ltb (badCorners f) (length (f .polygons))) (Faulty (CornersFault (badCorners f))) (λ e. (lists, vertices, corners-told f .lowest (ltb-true _ _ e))) (λ d.
+      when P (ltb p (length (f .polygons))) (Faulty (CornersFault p)) (λ e. (lists, vertices, corners-told f .lowest (ltb-true _ _ e))) (λ d.
       let corners = corners-told f .none .0 (ltb-false _ _ d) in
-      when (FloorCase s vs ps) (ltb (badLinks f) (length (f .polygons))) (Faulty (LinksFault (badLinks f))) (λ e. (lists, vertices, corners, links-told f .lowest (ltb-true _ _ e))) (λ g.
-      let accepted : FloorCase s vs ps Sound = (lists, record { vertices = vertices; corners = corners; links = links-told f .none .0 (ltb-false _ _ g) }) in accepted)))))
+      when (FloorCase s vs ps) (ltb q (length (f .polygons))) (Faulty (LinksFault q)) (λ e. (lists, vertices, corners, links-told f .lowest (ltb-true _ _ e))) (λ g.
+      let accepted : FloorCase s vs ps Sound = (lists, record { vertices = vertices; corners = corners; links = links-told f .none .0 (ltb-false _ _ g) }) in
+      accepted)))))
 
   -- ---- and in its case each is given
 
@@ -122,7 +127,7 @@ module _ (s : ℕ) (vs ps : List ℕ) where
   lists-right l = (whole-decided 8 1024 vs .1 (l .vertices-whole), whole-decided (s * 8) 512 ps .1 (l .polygons-whole))
 
   floor-found : (a : FloorLook) → FloorCase s vs ps a → floorLookOf s vs ps ≡ a
-  unfolding floorLookOf
+  unfolding floorLookOf cornersLookOf recordsLookOf linksLookOf
   floor-found (Faulty VertexLength) h = rw (not-holds _ (whole-decided 8 1024 vs) h)
   floor-found (Faulty PolygonLength) h = rw (whole-decided 8 1024 vs .1 (h .0), not-holds _ (whole-decided (s * 8) 512 ps) (h .1))
   floor-found (Faulty (Vertex v)) h =
@@ -133,10 +138,23 @@ module _ (s : ℕ) (vs ps : List ℕ) where
       rw (l .0, l .1, le-ltb _ _ (vertices-told f .none .1 (h .1)), corners-told f .is-lowest p (h .2), lt-ltb _ _ (h .2 .listed))
   floor-found (Faulty (LinksFault p)) h =
       let l = lists-right (h .0) in
-      rw (l .0, l .1, le-ltb _ _ (vertices-told f .none .1 (h .1)), le-ltb _ _ (corners-told f .none .1 (h .2)), links-told f .is-lowest p (h .3), lt-ltb _ _ (h .3 .listed))
+      rw (
+        l .0,
+        l .1,
+        le-ltb _ _ (vertices-told f .none .1 (h .1)),
+        le-ltb _ _ (corners-told f .none .1 (h .2)),
+        links-told f .is-lowest p (h .3),
+        lt-ltb _ _ (h .3 .listed),
+      )
   floor-found Sound h =
       let l = lists-right (h .0) in
-      rw (l .0, l .1, le-ltb _ _ (vertices-told f .none .1 (h .1 .vertices)), le-ltb _ _ (corners-told f .none .1 (h .1 .corners)), le-ltb _ _ (links-told f .none .1 (h .1 .links)))
+      rw (
+        l .0,
+        l .1,
+        le-ltb _ _ (vertices-told f .none .1 (h .1 .vertices)),
+        le-ltb _ _ (corners-told f .none .1 (h .1 .corners)),
+        le-ltb _ _ (links-told f .none .1 (h .1 .links)),
+      )
   floor-found (Faulty Question) h = absurd h
   floor-found (Faulty StartOutside) h = absurd h
   floor-found (Faulty GoalOutside) h = absurd h

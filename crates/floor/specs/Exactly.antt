@@ -36,7 +36,7 @@ abbrev pub VertexRight : Floor → ℕ → Type 0
 VertexRight f v = InRange (getD (f .vertices) v origin)
 
 abbrev pub CornersRight : Floor → ℕ → Type 0
-CornersRight f p = Corners f (polygon f p)
+CornersRight f p = Corners (length (f .vertices)) (polygon f p)
 
 -- "A question is 16 bytes: start x, y, goal x, y, in the same range"
 pub record Asked (question : List ℕ) : Type 0 where

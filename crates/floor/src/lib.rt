@@ -2,13 +2,17 @@
 // slots in a polygon's; a list holds at most as many records as document 01 says.
 
 ghost use mathlib.Core.Path.{_≡_};
-ghost use Prim.Native.Nat.{_*_, _/_, _≤_, _<_, _^_};
-ghost use mathlib.Core.Bool.{not};
+ghost use Prim.Native.Nat.{ℕ, _/_, _≤_, _<_};
 ghost use lib.ListN.{length, getD};
-ghost use Rattle.stored.specs.Stored.{origin, floorOf, polygon};
-ghost use Rattle.faults.specs.Tests.{pointRight, cornersRight, questionRight};
-ghost use Rattle.faults.specs.Accepted.{Accepted};
-ghost use Rattle.floor.specs.Look.{badVertex, badCorners, badLinks, floorLookOf, askOf, lookOf, refusalNumber};
+ghost use Rattle.plan.specs.Plan.{vertexCountIn, polygonCountIn};
+ghost use Rattle.stored.specs.Stored.{origin, verticesOf, recordIn, polygonsIn, floorIn, VerticesPlanned, PolygonsPlanned};
+ghost use Rattle.faults.specs.Tests.{pointRight, questionRight};
+ghost use Rattle.faults.specs.Accepted.{Corners};
+ghost use Rattle.edges.specs.Where.{turnsMarked};
+ghost use Rattle.edges.specs.Ground.{Ground};
+ghost use Rattle.floor.specs.Look.{badVertex, badCorners, badLinks, recordsLookOf, cornersLookOf, linksLookOf, floorLookOf, laidAfter, planIf, planAfter, askOf, lookOf, refusalTold};
+use plan::PLAN;
+use told::Told;
 
 // How many corners a polygon's record has room for.
 pub const SLOTS: usize = 8;
@@ -51,21 +55,22 @@ pub enum Look {
 }
 
 // 4: vertex v.
-fn vertex_right(vertices: &[u8], polygons: &[u8], slots: usize, v: usize) -> bool
+fn vertex_right(vertices: &[u8], v: usize) -> bool
     requires { ⌜ v < length (now vertices) / 8 ⌝ }
-    ensures { λ r. ⌜ r ≡ pointRight (getD (floorOf slots (now (vertices .entry)) (now (polygons .entry)) .vertices) v origin) ⌝ }
+    ensures { λ r. ⌜ r ≡ pointRight (getD (verticesOf (now (vertices .entry))) v origin) ⌝ }
 {
     faults::point_right(stored::stored_vertex(vertices, v))
 }
 
 // 4: the lowest vertex at fault, or the number of vertices.
-fn bad_vertex(vertices: &[u8], polygons: &[u8], slots: usize) -> usize
-    ensures { λ r. ⌜ r ≡ badVertex (floorOf slots (now (vertices .entry)) (now (polygons .entry))) ⌝ }
+fn bad_vertex(vertices: &[u8], plan: &[u32; PLAN]) -> usize
+    requires { ⌜ vertexCountIn (now plan) ≡ length (now vertices) / 8 ⌝ }
+    ensures { λ r. ⌜ r ≡ badVertex (verticesOf (now (vertices .entry))) ⌝ }
 {
-    let n = vertices.len() / 8;
+    let n = plan::vertex_count(plan);
     let mut v = 0;
     while v < n {
-        if !vertex_right(vertices, polygons, slots, v) {
+        if !vertex_right(vertices, v) {
             return v;
         }
         v += 1;
@@ -73,23 +78,15 @@ fn bad_vertex(vertices: &[u8], polygons: &[u8], slots: usize) -> usize
     v
 }
 
-// 5: the corners of polygon p.
-fn corners_right(vertices: &[u8], polygons: &[u8], slots: usize, p: usize) -> bool
-    requires { ⌜ (slots ≤ 16) × (p < length (now polygons) / (slots * 8)) ⌝ }
-    ensures { λ r. ⌜ r ≡ cornersRight (length (floorOf slots (now (vertices .entry)) (now (polygons .entry)) .vertices)) (polygon (floorOf slots (now (vertices .entry)) (now (polygons .entry))) p) ⌝ }
-{
-    faults::corners_right(polygons, slots, p, vertices.len() / 8)
-}
-
 // 5: the lowest polygon at fault, or the number of polygons.
-fn bad_corners(vertices: &[u8], polygons: &[u8], slots: usize) -> usize
-    requires { ⌜ (0 < slots) × (slots ≤ 16) ⌝ }
-    ensures { λ r. ⌜ r ≡ badCorners (floorOf slots (now (vertices .entry)) (now (polygons .entry))) ⌝ }
+fn bad_corners(polygons: &[u8], plan: &[u32; PLAN]) -> usize
+    requires { ⌜ PolygonsPlanned (now plan) (now polygons) ⌝ }
+    ensures { λ r. ⌜ r ≡ badCorners (vertexCountIn (now (plan .entry))) (polygonsIn (now (plan .entry)) (now (polygons .entry))) ⌝ }
 {
-    let n = stored::polygon_count(polygons, slots);
+    let n = plan::polygon_count(plan);
     let mut p = 0;
     while p < n {
-        if !corners_right(vertices, polygons, slots, p) {
+        if !faults::corners_right(polygons, plan, p) {
             return p;
         }
         p += 1;
@@ -98,14 +95,14 @@ fn bad_corners(vertices: &[u8], polygons: &[u8], slots: usize) -> usize
 }
 
 // 6: the lowest polygon at fault, or the number of polygons.
-fn bad_links(vertices: &[u8], polygons: &[u8], slots: usize) -> usize
-    requires { ⌜ (0 < slots) × (slots ≤ 16) × (length (now polygons) / (slots * 8) ≤ 512) ⌝ }
-    ensures { λ r. ⌜ r ≡ badLinks (floorOf slots (now (vertices .entry)) (now (polygons .entry))) ⌝ }
+fn bad_links(polygons: &[u8], plan: &[u32; PLAN]) -> usize
+    requires { ⌜ PolygonsPlanned (now plan) (now polygons) ⌝ }
+    ensures { λ r. ⌜ r ≡ badLinks (polygonsIn (now (plan .entry)) (now (polygons .entry))) ⌝ }
 {
-    let n = stored::polygon_count(polygons, slots);
+    let n = plan::polygon_count(plan);
     let mut p = 0;
     while p < n {
-        if !faults::links_right(vertices, polygons, slots, p) {
+        if !faults::links_right(polygons, plan, p) {
             return p;
         }
         p += 1;
@@ -113,9 +110,26 @@ fn bad_links(vertices: &[u8], polygons: &[u8], slots: usize) -> usize
     p
 }
 
-// 2 to 6, in table order, each over all records before the next.
-pub fn look_at_floor(vertices: &[u8], polygons: &[u8]) -> FloorLook
-    ensures { λ r. ⌜ r ≡ floorLookOf 8 (now (vertices .entry)) (now (polygons .entry)) ⌝ }
+// 4 and 5, each over all records before the next.
+fn look_at_records(vertices: &[u8], polygons: &[u8], plan: &[u32; PLAN]) -> FloorLook
+    requires { ⌜ VerticesPlanned (now plan) (now vertices) × PolygonsPlanned (now plan) (now polygons) ⌝ }
+    ensures { λ r. ⌜ r ≡ recordsLookOf (floorIn (now (plan .entry)) (now (vertices .entry)) (now (polygons .entry))) ⌝ }
+{
+    let v = bad_vertex(vertices, plan);
+    if v < plan::vertex_count(plan) {
+        return FloorLook::Faulty(Refusal::Vertex(v));
+    }
+    let p = bad_corners(polygons, plan);
+    if p < plan::polygon_count(plan) {
+        return FloorLook::Faulty(Refusal::Corners(p));
+    }
+    FloorLook::Accepted
+}
+
+// 2 to 5, and the plan is laid: what comes after may lean on the corners.
+pub fn look_at_corners(vertices: &[u8], polygons: &[u8], plan: &mut [u32; PLAN]) -> FloorLook
+    ensures { λ r. ⌜ r ≡ cornersLookOf 8 (now (vertices .entry)) (now (polygons .entry)) ⌝ }
+    ensures { λ _. ⌜ now (plan .exit) ≡ laidAfter 8 (now (vertices .entry)) (now (polygons .entry)) (now (plan .entry)) ⌝ }
 {
     if !faults::length_right(vertices, 8, MOST_VERTICES) {
         return FloorLook::Faulty(Refusal::VertexLength);
@@ -123,20 +137,40 @@ pub fn look_at_floor(vertices: &[u8], polygons: &[u8]) -> FloorLook
     if !faults::length_right(polygons, SLOTS * 8, MOST_POLYGONS) {
         return FloorLook::Faulty(Refusal::PolygonLength);
     }
-    let v = bad_vertex(vertices, polygons, SLOTS);
-    if v < vertices.len() / 8 {
-        return FloorLook::Faulty(Refusal::Vertex(v));
-    }
-    let n = stored::polygon_count(polygons, SLOTS);
-    let p = bad_corners(vertices, polygons, SLOTS);
-    if p < n {
-        return FloorLook::Faulty(Refusal::Corners(p));
-    }
-    let p = bad_links(vertices, polygons, SLOTS);
-    if p < n {
+    plan::lay(
+        plan,
+        SLOTS,
+        vertices.len() / 8,
+        polygons.len() / (SLOTS * 8),
+    );
+    look_at_records(vertices, polygons, plan)
+}
+
+// 6, of a floor whose corners are right, and the turn vertices of one that is accepted.
+fn look_at_links(polygons: &[u8], plan: &mut [u32; PLAN]) -> FloorLook
+    requires { ⌜ PolygonsPlanned (now plan) (now polygons) × (vertexCountIn (now plan) ≤ 1024) ⌝ }
+    requires { ⌜ ((p : ℕ) → p < polygonCountIn (now plan) → Corners (vertexCountIn (now plan)) (recordIn (now plan) (now polygons) p)) ⌝ }
+    ensures { λ r. ⌜ r ≡ linksLookOf (polygonsIn (now (plan .entry)) (now (polygons .entry))) ⌝ }
+    ensures { λ _. let listed = polygonsIn (now (plan .entry)) (now (polygons .entry)) in ⌜ now (plan .exit) ≡ planIf (linksLookOf listed) (turnsMarked listed (now (plan .entry))) (now (plan .entry)) ⌝ }
+{
+    let p = bad_links(polygons, plan);
+    if p < plan::polygon_count(plan) {
         return FloorLook::Faulty(Refusal::Links(p));
     }
+    edges::turns::mark_turns(polygons, plan);
     FloorLook::Accepted
+}
+
+// 2 to 6, in table order, each over all records before the next. Of a floor that is accepted the plan is filled.
+pub fn look_at_floor(vertices: &[u8], polygons: &[u8], plan: &mut [u32; PLAN]) -> FloorLook
+    ensures { λ r. ⌜ r ≡ floorLookOf 8 (now (vertices .entry)) (now (polygons .entry)) ⌝ }
+    ensures { λ _. ⌜ now (plan .exit) ≡ planAfter 8 (now (vertices .entry)) (now (polygons .entry)) (now (plan .entry)) ⌝ }
+{
+    let look = look_at_corners(vertices, polygons, plan);
+    match look {
+        FloorLook::Accepted => look_at_links(polygons, plan),
+        FloorLook::Faulty(refusal) => FloorLook::Faulty(refusal),
+    }
 }
 
 // 7: the question's bytes and coordinates.
@@ -151,49 +185,58 @@ fn question_right(question: &[u8]) -> bool
 }
 
 // 7 to 9, of a floor that was accepted.
-pub fn ask(vertices: &[u8], polygons: &[u8], question: &[u8]) -> Look
-    requires { ⌜ Accepted (floorOf 8 (now vertices) (now polygons)) ⌝ }
-    ensures { λ r. ⌜ r ≡ askOf (floorOf 8 (now (vertices .entry)) (now (polygons .entry))) (now (question .entry)) ⌝ }
+pub fn ask(vertices: &[u8], polygons: &[u8], plan: &[u32; PLAN], question: &[u8]) -> Look
+    requires { ⌜ Ground (now plan) (now vertices) (now polygons) ⌝ }
+    ensures { λ r. ⌜ r ≡ askOf (floorIn (now (plan .entry)) (now (vertices .entry)) (now (polygons .entry))) (now (question .entry)) ⌝ }
 {
     if !question_right(question) {
         return Look::Refused(Refusal::Question);
     }
-    let n = stored::polygon_count(polygons, SLOTS);
-    let start = edges::polygon_of(vertices, polygons, SLOTS, stored::question_start(question));
+    let n = plan::polygon_count(plan);
+    let start = edges::polygon_of(vertices, polygons, plan, stored::question_start(question));
     if n <= start {
         return Look::Refused(Refusal::StartOutside);
     }
-    let goal = edges::polygon_of(vertices, polygons, SLOTS, stored::question_goal(question));
+    let goal = edges::polygon_of(vertices, polygons, plan, stored::question_goal(question));
     if n <= goal {
         return Look::Refused(Refusal::GoalOutside);
     }
     Look::Inside(start, goal)
 }
 
-// 2 to 9: the floor, then the question. Nothing is asked of the caller, and nothing that is lent is changed.
-pub fn look_at(vertices: &[u8], polygons: &[u8], question: &[u8]) -> Look
+// 2 to 9: the floor, then the question. Of a floor that is accepted the plan is filled.
+pub fn look_with(vertices: &[u8], polygons: &[u8], question: &[u8], plan: &mut [u32; PLAN]) -> Look
     ensures { λ r. ⌜ r ≡ lookOf 8 (now (vertices .entry)) (now (polygons .entry)) (now (question .entry)) ⌝ }
+    ensures { λ _. ⌜ now (plan .exit) ≡ planAfter 8 (now (vertices .entry)) (now (polygons .entry)) (now (plan .entry)) ⌝ }
 {
-    match look_at_floor(vertices, polygons) {
-        FloorLook::Accepted => ask(vertices, polygons, question),
+    match look_at_floor(vertices, polygons, plan) {
+        FloorLook::Accepted => ask(vertices, polygons, plan, question),
         FloorLook::Faulty(refusal) => Look::Refused(refusal),
     }
 }
 
+// The same for who wants no plan. Nothing is asked of the caller, and nothing that is lent is changed.
+pub fn look_at(vertices: &[u8], polygons: &[u8], question: &[u8]) -> Look
+    ensures { λ r. ⌜ r ≡ lookOf 8 (now (vertices .entry)) (now (polygons .entry)) (now (question .entry)) ⌝ }
+{
+    let mut plan = [0u32; PLAN];
+    look_with(vertices, polygons, question, &mut plan)
+}
+
 impl Refusal {
-    // The number in document 01's table.
-    pub fn number(self) -> u32
-        ensures { λ r. ⌜ r ≡ refusalNumber self ⌝ }
+    // The number in document 01's table, and the record at fault where there is one.
+    pub fn told(self) -> Told
+        ensures { λ r. ⌜ r ≡ refusalTold self ⌝ }
     {
         match self {
-            Refusal::VertexLength => 2,
-            Refusal::PolygonLength => 3,
-            Refusal::Vertex(_) => 4,
-            Refusal::Corners(_) => 5,
-            Refusal::Links(_) => 6,
-            Refusal::Question => 7,
-            Refusal::StartOutside => 8,
-            Refusal::GoalOutside => 9,
+            Refusal::VertexLength => Told::Alone(2),
+            Refusal::PolygonLength => Told::Alone(3),
+            Refusal::Vertex(v) => Told::AtRecord(4, v),
+            Refusal::Corners(p) => Told::AtRecord(5, p),
+            Refusal::Links(p) => Told::AtRecord(6, p),
+            Refusal::Question => Told::Alone(7),
+            Refusal::StartOutside => Told::Alone(8),
+            Refusal::GoalOutside => Told::Alone(9),
         }
     }
 }

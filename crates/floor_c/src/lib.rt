@@ -2,36 +2,33 @@
 // its length. Each function takes any bytes and changes none.
 
 ghost use mathlib.Core.Path.{_≡_};
-ghost use Prim.Native.Nat.{_/_, _≤_};
-ghost use lib.ListN.{length};
+ghost use Rattle.plan.specs.Plan.{isMarked};
 ghost use Rattle.stored.specs.Stored.{floorOf};
-ghost use Rattle.faults.specs.Accepted.{Accepted};
-ghost use Rattle.edges.specs.Where.{marksOf};
 ghost use Rattle.floor.specs.Look.{floorLookOf};
-ghost use Rattle.floor_c.specs.Numbers.{lookNumber, markNumber, turnNumber};
+ghost use Rattle.floor_c.specs.Numbers.{marksOf, lookNumber, markNumber, turnNumber};
 use floor::FloorLook;
+use plan::PLAN;
 
 // Document 01's number: 0 where the floor is accepted, else 2 to 6.
 #[no_mangle]
 pub extern "C" fn floor_look(vertices: &[u8], polygons: &[u8]) -> u32
     ensures { λ r. ⌜ r ≡ lookNumber (floorLookOf 8 (now (vertices .entry)) (now (polygons .entry))) ⌝ }
 {
-    match floor::look_at_floor(vertices, polygons) {
+    let mut plan = [0u32; PLAN];
+    match floor::look_at_floor(vertices, polygons, &mut plan) {
         FloorLook::Accepted => 0,
-        FloorLook::Faulty(refusal) => refusal.number(),
+        FloorLook::Faulty(refusal) => refusal.told().number(),
     }
 }
 
-// Whether vertex v of an accepted floor turns: 1 or 0. A number that no vertex has turns nowhere.
-fn mark(vertices: &[u8], polygons: &[u8], v: usize) -> u32
-    requires { ⌜ Accepted (floorOf 8 (now vertices) (now polygons)) × (length (now vertices) / 8 ≤ 1024) ⌝ }
-    ensures { λ r. ⌜ r ≡ markNumber (marksOf (floorOf 8 (now (vertices .entry)) (now (polygons .entry)))) v ⌝ }
+// Whether vertex v turns, by the plan: 1 or 0. A number that no vertex has turns nowhere.
+fn mark(plan: &[u32; PLAN], v: usize) -> u32
+    ensures { λ r. ⌜ r ≡ markNumber (isMarked (now (plan .entry))) v ⌝ }
 {
-    let marks = edges::turns::turn_vertices(vertices, polygons, floor::SLOTS);
     if 1024 <= v {
         return 0;
     }
-    if edges::turns::turns(&marks, v) {
+    if plan::turns(plan, v) {
         return 1;
     }
     0
@@ -42,8 +39,9 @@ fn mark(vertices: &[u8], polygons: &[u8], v: usize) -> u32
 pub extern "C" fn floor_turn(vertices: &[u8], polygons: &[u8], v: usize) -> u32
     ensures { λ r. ⌜ r ≡ turnNumber (floorLookOf 8 (now (vertices .entry)) (now (polygons .entry))) (markNumber (marksOf (floorOf 8 (now (vertices .entry)) (now (polygons .entry)))) v) ⌝ }
 {
-    match floor::look_at_floor(vertices, polygons) {
-        FloorLook::Accepted => mark(vertices, polygons, v),
-        FloorLook::Faulty(refusal) => refusal.number(),
+    let mut plan = [0u32; PLAN];
+    match floor::look_at_floor(vertices, polygons, &mut plan) {
+        FloorLook::Accepted => mark(&plan, v),
+        FloorLook::Faulty(refusal) => refusal.told().number(),
     }
 }

@@ -5,8 +5,8 @@
 ghost use mathlib.Core.Path.{_≡_};
 ghost use lib.ListN.{length};
 use floor::Look;
-use floor::Refusal;
 use libc::STDOUT_FILENO;
+use told::Told;
 
 // A vertex more than the most, a polygon more than the most, and a question twice too long.
 const MOST_VERTEX_BYTES: usize = 8208;
@@ -98,26 +98,16 @@ fn say(look: Look) {
             io::write_all(STDOUT_FILENO, b" ");
             io::print_decimal(STDOUT_FILENO, goal as u64);
         }
-        Look::Refused(refusal) => say_refusal(refusal),
+        Look::Refused(refusal) => say_told(refusal.told()),
     }
     io::write_all(STDOUT_FILENO, b"\n");
 }
 
-fn say_refusal(refusal: Refusal) {
-    io::print_decimal(STDOUT_FILENO, refusal.number() as u64);
-    match refusal {
-        Refusal::Vertex(v) => say_record(v),
-        Refusal::Corners(p) => say_record(p),
-        Refusal::Links(p) => say_record(p),
-        Refusal::VertexLength => (),
-        Refusal::PolygonLength => (),
-        Refusal::Question => (),
-        Refusal::StartOutside => (),
-        Refusal::GoalOutside => (),
-    }
-}
-
-fn say_record(record: usize) {
+fn say_told(told: Told) {
+    io::print_decimal(STDOUT_FILENO, told.number() as u64);
+    let Told::AtRecord(_, record) = told else {
+        return;
+    };
     io::write_all(STDOUT_FILENO, b" ");
     io::print_decimal(STDOUT_FILENO, record as u64);
 }

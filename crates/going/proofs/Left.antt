@@ -17,11 +17,12 @@ use Rattle.walk.specs.declared.Part.{Part}
 use Rattle.walk.specs.declared.Walked.{Walked}
 use Rattle.walk.specs.declared.round.Round.{Round}
 use Rattle.walk.specs.Walk.{walkEdgeOf, oneOf, partsOf, noPart, partAt}
-use Rattle.walk.specs.Round.{edgeOf, afterEntry, Successor, successorsOn, edgesFrom, others, walkOf, successorsOf}
+use Rattle.walk.specs.declared.Successor.{Successor}
+use Rattle.walk.specs.Round.{edgeOf, afterEntry, successorsOn, edgesFrom, others, walkOf, successorsOf}
 use Rattle.walk.specs.Turns.{beginOf, isOverOf, edgeNumberOf, nextOf}
 use Rattle.walk.proofs.Wrap.{wrapped-past}
 use Rattle.walk.proofs.Laws.{array-holds-the-parts, kind-is-the-walk's, another}
-use Rattle.stored.specs.Stored.{Floor, Polygon, floorOf, polygonAt, corner, cornerCount, polygon, vertex, edge}
+use Rattle.stored.specs.Stored.{Floor, Polygon, floorIn, recordIn, corner, cornerCount, polygon, vertex, edge}
 use Rattle.steps.specs.declared.Node.{Node}
 use Rattle.steps.specs.declared.Permitted.{Permitted}
 use Rattle.steps.specs.declared.Permitted.the-variants.{Yes, No}
@@ -60,19 +61,19 @@ steps-over-both f node (x ∷ xs) ys = go (stepOf f node x) (stepsOver f node xs
 
 -- ---- the walk
 
-module _ (s : ℕ) (vs ps : List ℕ) (node : Node) (h : Stands s vs ps node) where
+module _ (plan vs ps : List ℕ) (node : Node) (h : Stands plan vs ps node) where
   abbrev f : Floor
-  f = floorOf s vs ps
+  f = floorIn plan vs ps
 
   abbrev its : Polygon
-  its = polygonAt s ps (node .polygon)
+  its = recordIn plan ps (node .polygon)
 
   -- what the round's edge yields comes first in what is left
   pub left-next : (round : Round) → Goes its node round → isOverOf round ≡ false
       → leftIn f node round ≡ successorsOn (edgeNumberOf round) (partsOf (walkedOn f node round)) ++ leftIn f node (nextOf round (walkedOn f node round .kind))
   unfolding leftIn walkedOn walkedAt edgeNumberOf nextOf edgesFrom partsOver
   left-next round goes on =
-      let e : round .count - 1 - round .taken ≡ suc (round .count - 1 - (round .taken + 1)) = omega (arith, more-than-taken s vs ps node h round goes on) in
+      let e : round .count - 1 - round .taken ≡ suc (round .count - 1 - (round .taken + 1)) = omega (arith, more-than-taken plan vs ps node h round goes on) in
       rw (e, add-one (round .taken))
 
   pub steps-left-next : (round : Round) → Goes its node round → isOverOf round ≡ false
@@ -139,7 +140,7 @@ module _ (s : ℕ) (vs ps : List ℕ) (node : Node) (h : Stands s vs ps node) wh
       rw (count-of-seed (polygon f (node .polygon)) node e, entry-of-seed (polygon f (node .polygon)) node e, z, candidates-of-seed e) (seed-parts e RightNonObservable 0 n ∙ sym (table-is-from n (wholeEdge f node)))
 
   entered-in : node .seed ≡ false → entryOf f node < n
-  entered-in e = rw (its-polygon s vs ps node h) (h .entered e)
+  entered-in e = rw (its-polygon plan vs ps node h) (h .entered e)
 
   entry-is : node .seed ≡ false → entryFor (polygon f (node .polygon)) node ≡ entryOf f node
   unfolding entryOf
@@ -151,4 +152,4 @@ module _ (s : ℕ) (vs ps : List ℕ) (node : Node) (h : Stands s vs ps node) wh
       rw (count-of-node (polygon f (node .polygon)) node e, entry-is e, candidates-of-node e, as-many-corners f (node .polygon)) (node-parts e (entryOf f node) (entered-in e) RightNonObservable 0 (n - 1) (omega arith))
 
   pub left-begin : leftIn f node (beginRound its node) ≡ candidates f node
-  left-begin = left-begin-parts ∙ ap (λ (q : Polygon). partsOver f node RightNonObservable (others (countFor q node) (entryFor q node))) (sym (its-polygon s vs ps node h)) ∙ by-seed node of-seed of-node
+  left-begin = left-begin-parts ∙ ap (λ (q : Polygon). partsOver f node RightNonObservable (others (countFor q node) (entryFor q node))) (sym (its-polygon plan vs ps node h)) ∙ by-seed node of-seed of-node

@@ -13,8 +13,8 @@ use Rattle.walk.specs.declared.Walked.{Walked}
 use Rattle.walk.specs.Walk.{walkEdgeOf, walkedOf, oneOf}
 use Rattle.walk.specs.Turns.{beginOf, isOverOf, edgeNumberOf, nextOf}
 use Rattle.walk.proofs.Laws.{count-is-one-to-three, array-is-of-three, another}
-use Rattle.stored.specs.Stored.{Floor, Polygon, polygonAt, floorOf, cornerCount, polygon, edge}
-use Rattle.stored.proofs.Records.{polygon-is}
+use Rattle.stored.specs.Stored.{Floor, Polygon, recordIn, floorIn, cornerCount, polygon, edge}
+use Rattle.stored.proofs.Records.{polygon-read}
 use Rattle.steps.specs.declared.Node.{Node}
 use Rattle.steps.specs.Steps.{placeOf, entryOf}
 use Rattle.going.specs.Going.{wholeOf, walkBy, entryFor, countFor, beginRound, walkedAt, walkedOn, Yielded, Stands, Turning, Goes}
@@ -107,15 +107,15 @@ module _ (q : Polygon) (node : Node) where
     unfolding beginRound
     node-begins e entry at r = rw (entry-of-node e, count-of-node e, ← found, ← at) r
 
-module _ (s : ℕ) (vs ps : List ℕ) (node : Node) (h : Stands s vs ps node) where
+module _ (plan vs ps : List ℕ) (node : Node) (h : Stands plan vs ps node) where
   abbrev f : Floor
-  f = floorOf s vs ps
+  f = floorIn plan vs ps
 
   abbrev q : Polygon
-  q = polygonAt s ps (node .polygon)
+  q = recordIn plan ps (node .polygon)
 
   pub its-polygon : polygon f (node .polygon) ≡ q
-  its-polygon = polygon-is s vs ps (node .polygon) (h .listed .listed)
+  its-polygon = polygon-read (h .listed .polygons-planned) (node .polygon) (h .listed .listed)
 
   abbrev n : ℕ
   n = cornerCount q
@@ -163,7 +163,7 @@ module _ (s : ℕ) (vs ps : List ℕ) (node : Node) (h : Stands s vs ps node) wh
         below-last : (a b : ℕ) → a < b + 1 → (a ≡ b → ⊥) → a < b
         below-last a b l d = omega arith
 
-    pub turning : Turning s ps node round
+    pub turning : Turning plan ps node round
     turning = record { entry-in = entry-in; taken-in = omega (arith, more-than-taken); edge-in = edge-of-polygon }
 
     pub next-goes : (kind : SuccessorType) → Goes q node (nextOf round kind)

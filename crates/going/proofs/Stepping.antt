@@ -4,10 +4,14 @@ use Prim.Native.Nat.{ℕ, _<_}
 use mathlib.Core.Path.{_≡_, sym, ap, _∙_}
 use mathlib.Core.Bool.{false}
 use mathlib.Core.List.{List}
-use Rattle.walk.specs.declared.Part.{Part}
+use Rattle.walk.specs.declared.Successor.{Successor}
 use Rattle.walk.specs.declared.round.Round.{Round}
 use Rattle.walk.specs.Turns.{isOverOf, edgeNumberOf}
-use Rattle.stored.specs.Stored.{Floor, Polygon, floorOf, polygonAt}
+use Rattle.plan.specs.Plan.{slotsIn, isMarked}
+use Rattle.stored.specs.Stored.{Floor, Polygon, recordIn, verticesOf, floorIn, Lies}
+use Rattle.stored.proofs.Records.{lies}
+use Rattle.edges.specs.Where.{isTurn}
+use Rattle.edges.specs.Ground.{Ground}
 use Rattle.edges.proofs.Inside.{slot-inside}
 use Rattle.steps.specs.declared.Node.{Node}
 use Rattle.view.specs.declared.View.{View}
@@ -16,25 +20,28 @@ use Rattle.steps.specs.Steps.{stepOf}
 use Rattle.view.specs.View.{viewOf, stepBy}
 use Rattle.going.specs.Going.{Stands, Goes}
 use Rattle.going.proofs.Rounds.{its-polygon, turning}
-use Rattle.view.proofs.Seen.{step-by-view}
+use Rattle.view.proofs.Seen.{view-by-plan, step-by-view}
 
--- the view out of a node is the node's
-pub viewed-polygon : (f : Floor) (node : Node) (view : View) (n : ℕ) → view ≡ viewOf f node → node .polygon < n → view .polygon < n
-unfolding viewOf
-viewed-polygon f node view n e h = rw e h
-
-module _ (s : ℕ) (vs ps : List ℕ) (node : Node) (h : Stands s vs ps node) where
+module _ (plan vs ps : List ℕ) (node : Node) (h : Stands plan vs ps node) where
   abbrev f : Floor
-  f = floorOf s vs ps
+  f = floorIn plan vs ps
 
-  pub edge-inside : (round : Round) → Goes (polygonAt s ps (node .polygon)) node round → isOverOf round ≡ false → edgeNumberOf round < s
-  edge-inside round goes on = slot-inside s vs ps (node .polygon) (h .listed) (edgeNumberOf round) (turning s vs ps node h round goes on .edge-in)
+  pub polygon-lies : Lies plan ps (node .polygon)
+  polygon-lies = lies (h .listed .polygons-planned) (node .polygon) (h .listed .listed)
 
-  pub step-on : (view : View) (i : ℕ) (part : Part) (p : Permitted) → view ≡ viewOf f node → p ≡ stepBy (polygonAt s ps (view .polygon)) view i part
-      → p ≡ stepOf f node (record { edge = i; part = part })
-  unfolding viewOf
-  step-on view i part p v e =
-      e
-      ∙ ap (λ (w : View). stepBy (polygonAt s ps (w .polygon)) w i part) v
-      ∙ ap (λ (q : Polygon). stepBy q (viewOf f node) i part) (sym (its-polygon s vs ps node h))
-      ∙ step-by-view f node i part
+  pub edge-inside : (round : Round) → Goes (recordIn plan ps (node .polygon)) node round → isOverOf round ≡ false → edgeNumberOf round < slotsIn plan
+  edge-inside round goes on = slot-inside (slotsIn plan) ps (node .polygon) (edgeNumberOf round) (turning plan vs ps node h round goes on .edge-in)
+
+  -- the step by the view of the plan
+  module _ (g : Ground plan vs ps) (view : View) (its : view ≡ viewOf (verticesOf vs) (isMarked plan) node) where
+    pub viewed-lies : Lies plan ps (view .polygon)
+    unfolding viewOf
+    viewed-lies = rw its polygon-lies
+
+    pub step-on : (s : Successor) (p : Permitted) → p ≡ stepBy (recordIn plan ps (view .polygon)) view s → p ≡ stepOf f node s
+    unfolding viewOf
+    step-on s p e =
+        e
+        ∙ ap (λ (w : View). stepBy (recordIn plan ps (w .polygon)) w s) (its ∙ view-by-plan g node (h .first-listed) (h .second-listed))
+        ∙ ap (λ (q : Polygon). stepBy q (viewOf (verticesOf vs) (isTurn f) node) s) (sym (its-polygon plan vs ps node h))
+        ∙ step-by-view f node s

@@ -1,6 +1,6 @@
 -- The walk round a node's polygon, an edge at a time: where it begins, what it yields on an edge, and what is left. proofs/Left says that from the beginning on
 -- what the edges yield are the candidates, in order. Assumes nothing.
-use Prim.Native.Nat.{ℕ, _+_, _-_, _/_, _≤_, _<_}
+use Prim.Native.Nat.{ℕ, _+_, _-_, _≤_, _<_}
 use mathlib.Core.Path.{_≡_}
 use mathlib.Core.Bool.{false, cond}
 use mathlib.Core.List.{List, [], _∷_, _++_}
@@ -11,9 +11,11 @@ use Rattle.cut.specs.declared.SuccessorType.the-variants.{Observable}
 use Rattle.walk.specs.declared.Walked.{Walked}
 use Rattle.walk.specs.declared.round.Round.{Round}
 use Rattle.walk.specs.Walk.{walkEdgeOf, walkedOf, oneOf, partsOf}
-use Rattle.walk.specs.Round.{Successor, successorsOn, edgesFrom}
+use Rattle.walk.specs.declared.Successor.{Successor}
+use Rattle.walk.specs.Round.{successorsOn, edgesFrom}
 use Rattle.walk.specs.Turns.{beginOf, edgeNumberOf}
-use Rattle.stored.specs.Stored.{Floor, Polygon, floorOf, polygonAt, cornerCount, edge}
+use Rattle.plan.specs.Plan.{vertexCountIn}
+use Rattle.stored.specs.Stored.{Floor, Polygon, recordIn, floorIn, cornerCount, edge}
 use Rattle.faults.specs.Accepted.{Listed}
 use Rattle.steps.specs.declared.Node.{Node}
 use Rattle.steps.specs.Steps.{placeOf, entryOf}
@@ -67,17 +69,17 @@ leftIn f node round = partsOver f node (round .kind) (edgesFrom (round .count) (
 -- ---- below the door
 
 -- the node stands on an accepted floor
-pub record Stands (slots : ℕ) (vertices polygons : List ℕ) (node : Node) : Type 0 where
-  pub listed : Listed slots vertices polygons (node .polygon)
-  pub first-listed : node .first < length vertices / 8
-  pub second-listed : node .second < length vertices / 8
-  pub entered : node .seed ≡ false → entryOf (floorOf slots vertices polygons) node < cornerCount (polygonAt slots polygons (node .polygon))
+pub record Stands (plan vertices polygons : List ℕ) (node : Node) : Type 0 where
+  pub listed : Listed plan vertices polygons (node .polygon)
+  pub first-listed : node .first < vertexCountIn plan
+  pub second-listed : node .second < vertexCountIn plan
+  pub entered : node .seed ≡ false → entryOf (floorIn plan vertices polygons) node < cornerCount (recordIn plan polygons (node .polygon))
 
 -- a round of the node's polygon that is not over
-pub record Turning (slots : ℕ) (polygons : List ℕ) (node : Node) (round : Round) : Type 0 where
+pub record Turning (plan polygons : List ℕ) (node : Node) (round : Round) : Type 0 where
   pub entry-in : round .entry < round .count
   pub taken-in : round .taken < round .count
-  pub edge-in : edgeNumberOf round < cornerCount (polygonAt slots polygons (node .polygon))
+  pub edge-in : edgeNumberOf round < cornerCount (recordIn plan polygons (node .polygon))
 
 -- the round stands where it has come to by itself
 pub record Goes (q : Polygon) (node : Node) (round : Round) : Type 0 where

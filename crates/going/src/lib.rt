@@ -2,12 +2,13 @@
 // every edge whole.
 
 ghost use mathlib.Core.Path.{_≡_};
-ghost use Prim.Native.Nat.{_*_, _/_, _≤_, _<_};
-ghost use lib.ListN.{length};
-ghost use Rattle.stored.specs.Stored.{floorOf, polygonAt, cornerCount};
+ghost use Prim.Native.Nat.{_≤_};
+ghost use Rattle.plan.specs.Plan.{slotsIn};
+ghost use Rattle.stored.specs.Stored.{recordIn, floorIn, Lies};
 ghost use Rattle.steps.specs.Steps.{placeOf};
-ghost use Rattle.going.specs.Going.{wholeOf, walkBy, walkedAt, beginRound, Stands};
+ghost use Rattle.going.specs.Going.{wholeOf, walkBy, walkedOn, beginRound, Stands, Turning};
 use cut::SuccessorType;
+use plan::PLAN;
 use point::Segment;
 use steps::Node;
 use walk::Part;
@@ -43,13 +44,13 @@ fn walk_by(node: Node, edge: Segment, kind: SuccessorType) -> Walked
 }
 
 // The place of the corner v among n, or n.
-pub fn place_of(polygons: &[u8], slots: usize, p: usize, n: usize, v: u32) -> usize
-    requires { ⌜ (slots ≤ 16) × (n ≤ slots) × (p < length (now polygons) / (slots * 8)) ⌝ }
-    ensures { λ r. ⌜ r ≡ placeOf (polygonAt slots (now (polygons .entry)) p) n v ⌝ }
+pub fn place_of(polygons: &[u8], plan: &[u32; PLAN], p: usize, n: usize, v: u32) -> usize
+    requires { ⌜ Lies (now plan) (now polygons) p × (n ≤ slotsIn (now plan)) ⌝ }
+    ensures { λ r. ⌜ r ≡ placeOf (recordIn (now (plan .entry)) (now (polygons .entry)) p) n v ⌝ }
 {
     let mut i = 0;
     while i < n {
-        if stored::corner(polygons, slots, p, i) == v {
+        if stored::corner(polygons, plan, p, i) == v {
             return i;
         }
         i += 1;
@@ -57,32 +58,33 @@ pub fn place_of(polygons: &[u8], slots: usize, p: usize, n: usize, v: u32) -> us
     i
 }
 
-// What the walk yields on edge i, where kind is what the edge before it left.
-pub fn walk_at(
+// What the walk yields on the round's edge, where the edge before it has left the round's kind.
+pub fn walk(
     vertices: &[u8],
     polygons: &[u8],
-    slots: usize,
+    plan: &[u32; PLAN],
     node: Node,
-    i: usize,
-    kind: SuccessorType,
+    round: Round,
 ) -> Walked
-    requires { ⌜ Stands slots (now vertices) (now polygons) node × (i < cornerCount (polygonAt slots (now polygons) (node .polygon))) ⌝ }
-    ensures { λ r. ⌜ r ≡ walkedAt (floorOf slots (now (vertices .entry)) (now (polygons .entry))) node i kind ⌝ }
+    requires { ⌜ Stands (now plan) (now vertices) (now polygons) node × Turning (now plan) (now polygons) node round ⌝ }
+    ensures { λ r. ⌜ r ≡ walkedOn (floorIn (now (plan .entry)) (now (vertices .entry)) (now (polygons .entry))) node round ⌝ }
 {
-    let edge = edges::edge(vertices, polygons, slots, node.polygon as usize, i);
+    let i = round.edge();
+    let edge = edges::edge(vertices, polygons, plan, node.polygon as usize, i);
+    let kind = round.kind;
     walk_by(node, edge, kind)
 }
 
 // The walk begins behind the edge that was entered by, the seed's at the first edge.
-pub fn begin(polygons: &[u8], slots: usize, node: Node) -> Round
-    requires { ⌜ (slots ≤ 16) × (node .polygon < length (now polygons) / (slots * 8)) ⌝ }
-    ensures { λ r. ⌜ r ≡ beginRound (polygonAt slots (now (polygons .entry)) (node .polygon)) node ⌝ }
+pub fn begin(polygons: &[u8], plan: &[u32; PLAN], node: Node) -> Round
+    requires { ⌜ Lies (now plan) (now polygons) (node .polygon) ⌝ }
+    ensures { λ r. ⌜ r ≡ beginRound (recordIn (now (plan .entry)) (now (polygons .entry)) (node .polygon)) node ⌝ }
 {
     let p = node.polygon as usize;
-    let n = stored::corner_count(polygons, slots, p);
+    let n = stored::corner_count(polygons, plan, p);
     if node.seed {
         return Round::begin(n, n + 1);
     }
-    let entry = place_of(polygons, slots, p, n, node.second);
+    let entry = place_of(polygons, plan, p, n, node.second);
     Round::begin(entry, n)
 }

@@ -1,17 +1,19 @@
--- Document 01, "The judge runs 2 to 9, then 20, then records in order": what it says of a floor, a question and a route file, and the number and the values
--- that stand for each verdict. Assumes nothing.
+-- Document 01, "The judge runs 2 to 9, then 20, then records in order": what it says of a floor, a question and a route file, and what is
+-- told of each verdict. Assumes nothing.
 use Prim.Native.Nat.{ℕ}
 use mathlib.Core.Bool.{_&&_, cond}
 use mathlib.Core.List.{List}
+use Rattle.told.specs.declared.Told.{Told}
+use Rattle.told.specs.Told.{numberOf, valuesOf}
 use Rattle.point.specs.declared.Point.{Point}
 use Rattle.floor.specs.declared.Look.{Look}
 use Rattle.floor.specs.declared.Look.the-variants.{Inside, Refused as LookRefused}
 use Rattle.stored.specs.Stored.{Question, floorOf, questionOf}
-use Rattle.floor.specs.Look.{lookOf, refusalNumber, refusalRecord}
+use Rattle.floor.specs.Look.{lookOf, refusalTold}
 use Rattle.route.specs.declared.Judged.{Judged}
 use Rattle.route.specs.declared.Judged.the-variants.{Accepted, NotEnd}
 use Rattle.route.specs.Record.{recordAt, endBytes}
-use Rattle.route.specs.Judge.{sameBytes, judgeOf, judgedNumber, judgedRecord}
+use Rattle.route.specs.Judge.{sameBytes, judgeOf, judgedTold}
 use Rattle.steps.specs.declared.Node.{Node}
 use Rattle.steps.specs.World.{endingOf, isInGoal, worldIn}
 use Rattle.judge.specs.declared.Verdict.{Verdict}
@@ -40,13 +42,15 @@ verdictOf slots vertices polygons question route =
     judgeIf (lookOf slots vertices polygons question)
     (λ from to. judgeOf (worldIn (floorOf slots vertices polygons) (questionOf question) from to) route)
 
--- ---- document 01's number and values of each verdict
+-- ---- what is told of each verdict
 
-unfoldable pub verdictNumber : Verdict → ℕ
-verdictNumber (Refused refusal) = refusalNumber refusal
-verdictNumber (Read judged) = judgedNumber judged
+unfoldable pub verdictTold : Verdict → Told
+verdictTold (Refused refusal) = refusalTold refusal
+verdictTold (Read judged) = judgedTold judged
+
+abbrev pub verdictNumber : Verdict → ℕ
+verdictNumber verdict = numberOf (verdictTold verdict)
 
 -- "4, 5, 6, 21, 22, 23 also return the lowest record at fault, 23 always the last record"
-unfoldable pub verdictRecord : Verdict → List ℕ
-verdictRecord (Refused refusal) = refusalRecord refusal
-verdictRecord (Read judged) = judgedRecord judged
+abbrev pub verdictRecord : Verdict → List ℕ
+verdictRecord verdict = valuesOf (verdictTold verdict)

@@ -9,7 +9,7 @@ ghost use Rattle.floor.specs.declared.Look.the-variants.{Inside};
 ghost use Rattle.floor.specs.Look.{lookOf};
 ghost use Rattle.route.specs.Judge.{judgeOf};
 ghost use Rattle.steps.specs.World.{worldIn};
-ghost use Rattle.judge.specs.Verdict.{asked, endOf, verdictOf, verdictNumber};
+ghost use Rattle.judge.specs.Verdict.{asked, endOf, verdictOf, verdictTold};
 ghost use Rattle.judge.specs.Ready.{Ready};
 use floor::Look;
 use floor::Refusal;
@@ -18,6 +18,7 @@ use point::Point;
 use records::Record;
 use route::Judged;
 use steps::Node;
+use told::Told;
 
 // What the judge says.
 pub enum Verdict {
@@ -123,13 +124,13 @@ pub fn judge(vertices: &[u8], polygons: &[u8], question: &[u8], route: &[u8]) ->
 }
 
 impl Verdict {
-    // Document 01's number of a verdict.
-    pub fn number(self) -> u32
-        ensures { λ r. ⌜ r ≡ verdictNumber self ⌝ }
+    // The number in document 01's table, and the record at fault where there is one.
+    pub fn told(self) -> Told
+        ensures { λ r. ⌜ r ≡ verdictTold self ⌝ }
     {
         match self {
-            Verdict::Refused(refusal) => refusal.number(),
-            Verdict::Read(judged) => judged.number(),
+            Verdict::Refused(refusal) => refusal.told(),
+            Verdict::Read(judged) => judged.told(),
         }
     }
 }

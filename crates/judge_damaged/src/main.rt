@@ -27,7 +27,7 @@ fn judge_all(vertices: &[u8], polygons: &[u8], question: &[u8], route: &mut [u8]
     requires { ⌜ n ≤ length (now route) ⌝ }
 {
     io::write_all(STDOUT_FILENO, b"as it is: ");
-    console::say(judge::judge(vertices, polygons, question, &route[..n]));
+    console::say(judge::judge(vertices, polygons, question, &route[..n]).told());
     judge_changed(vertices, polygons, question, &mut route[..n]);
     judge_cut(vertices, polygons, question, &route[..n]);
     judge_longer(vertices, polygons, question, route, n);
@@ -52,7 +52,7 @@ fn judge_with(vertices: &[u8], polygons: &[u8], question: &[u8], route: &mut [u8
     say_place(b"byte ", i, b" one more: ");
     let before = route[i];
     route[i] = one_more(before);
-    console::say(judge::judge(vertices, polygons, question, route));
+    console::say(judge::judge(vertices, polygons, question, route).told());
     route[i] = before;
 }
 
@@ -78,7 +78,7 @@ fn judge_front(vertices: &[u8], polygons: &[u8], question: &[u8], route: &[u8], 
     requires { ⌜ i < length (now route) ⌝ }
 {
     say_place(b"cut to ", i, b" bytes: ");
-    console::say(judge::judge(vertices, polygons, question, &route[..i]));
+    console::say(judge::judge(vertices, polygons, question, &route[..i]).told());
 }
 
 // A zero byte behind the route, if there is room for one.
@@ -86,7 +86,7 @@ fn judge_longer(vertices: &[u8], polygons: &[u8], question: &[u8], route: &mut [
     if n < route.len() {
         route[n] = 0;
         io::write_all(STDOUT_FILENO, b"one zero byte longer: ");
-        console::say(judge::judge(vertices, polygons, question, &route[..n + 1]));
+        console::say(judge::judge(vertices, polygons, question, &route[..n + 1]).told());
     }
 }
 

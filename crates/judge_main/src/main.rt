@@ -16,5 +16,5 @@ fn judge_files(vertices: &mut [u8], polygons: &mut [u8], question: &mut [u8], ro
     let p = console::read_file(b"floor.ply", polygons);
     let q = console::read_file(b"question", question);
     let r = console::read_input(route);
-    console::say(judge::judge(&vertices[..v], &polygons[..p], &question[..q], &route[..r]));
+    console::say(judge::judge(&vertices[..v], &polygons[..p], &question[..q], &route[..r]).told());
 }

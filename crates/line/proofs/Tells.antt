@@ -8,8 +8,9 @@ use lib.Dec.{eqb, ltb, leb}
 use lib.ListN.{length, getD, drop}
 use lib.Seq.{drop-at}
 use borrow.Author.Tests.{lt-ltb, le-leb}
-use Rattle.says.specs.declared.At.{At}
-use Rattle.says.specs.declared.At.the-variants.{Record, Nowhere}
+use Rattle.told.specs.declared.Told.{Told}
+use Rattle.told.specs.declared.Told.the-variants.{Alone, AtRecord, WithCount}
+use Rattle.told.specs.Told.{numberOf, recordOf}
 use Rattle.says.specs.Words.{bytesOf, wordsOf}
 use Rattle.line.specs.Decimal.{decimalOf}
 use Rattle.line.specs.Line.{recordPart, gapOf, lineOf}
@@ -51,12 +52,12 @@ decimal-and-rest m n u v hu hv e =
 abbrev behind : ℕ → List ℕ
 behind n = gapOf n ++ (wordsOf n ++ bytesOf "\n")
 
-abbrev rest : ℕ → At → List ℕ
-rest n at = recordPart at ++ behind n
+abbrev rest : ℕ → Told → List ℕ
+rest n told = recordPart told ++ behind n
 
-split : (n : ℕ) (at : At) → lineOf n at ≡ decimalOf n ++ rest n at
+split : (told : Told) → lineOf told ≡ decimalOf (numberOf told) ++ rest (numberOf told) told
 unfolding lineOf
-split n at = simp append-assoc
+split told = simp append-assoc
 
 -- what stands before the words: a space before those of 0, which begin otherwise than a record's part, and a colon before all others
 behind-accepted : (n : ℕ) → eqb n 0 ≡ true → (digitsOf (behind n) ≡ []) × (getD (behind n) 2 0 ≡ 99)
@@ -74,30 +75,38 @@ no-digit-behind n = go (eqb n 0) refl
     go true e = behind-accepted n e .0
     go false e = behind-wrong n e .0
 
-no-digit : (n : ℕ) (at : At) → digitsOf (rest n at) ≡ []
+no-digit : (n : ℕ) (told : Told) → digitsOf (rest n told) ≡ []
 unfolding digitsOf recordPart bytesOf
-no-digit n (Record i) = refl
-no-digit n Nowhere = no-digit-behind n
+no-digit n (Alone number) = no-digit-behind n
+no-digit n (AtRecord number i) = refl
+no-digit n (WithCount number count) = no-digit-behind n
 
-a-record-is-said : (n i : ℕ) (t : Bool) → eqb n 0 ≡ t → rest n (Record i) ≡ rest n Nowhere → ⊥
+a-record-is-said : (n i m : ℕ) (t : Bool) → eqb n 0 ≡ t → rest n (AtRecord m i) ≡ behind n → ⊥
 unfolding recordPart bytesOf
-a-record-is-said n i true e same =
+a-record-is-said n i m true e same =
     let third : _≡_ {A = ℕ} 116 99 = ap (λ l. getD l 2 0) same ∙ behind-accepted n e .1 in
     omega (arith, third)
-a-record-is-said n i false e same =
+a-record-is-said n i m false e same =
     let first : _≡_ {A = ℕ} 32 58 = ap (λ l. getD l 0 0) same ∙ behind-wrong n e .1 in
     omega (arith, first)
 
-same-record : (n : ℕ) (a b : At) → rest n a ≡ rest n b → a ≡ b
-unfolding recordPart bytesOf
-same-record n (Record i) (Record j) e =
-    ap Record (decimal-and-rest i j (behind n) (behind n) (no-digit-behind n) (no-digit-behind n) (ap (drop 11) e) .0)
-same-record n (Record i) Nowhere e = absurd (a-record-is-said n i (eqb n 0) refl e)
-same-record n Nowhere (Record j) e = absurd (a-record-is-said n j (eqb n 0) refl (sym e))
-same-record n Nowhere Nowhere e = refl
+same-record : (n : ℕ) (a b : Told) → rest n a ≡ rest n b → recordOf a ≡ recordOf b
+unfolding recordOf recordPart bytesOf
+same-record n (AtRecord m i) (AtRecord k j) e =
+    ap (λ lowest. lowest ∷ []) (decimal-and-rest i j (behind n) (behind n) (no-digit-behind n) (no-digit-behind n) (ap (drop 11) e) .0)
+same-record n (AtRecord m i) (Alone k) e = absurd (a-record-is-said n i m (eqb n 0) refl e)
+same-record n (AtRecord m i) (WithCount k count) e = absurd (a-record-is-said n i m (eqb n 0) refl e)
+same-record n (Alone m) (AtRecord k j) e = absurd (a-record-is-said n j k (eqb n 0) refl (sym e))
+same-record n (WithCount m count) (AtRecord k j) e = absurd (a-record-is-said n j k (eqb n 0) refl (sym e))
+same-record n (Alone m) (Alone k) e = refl
+same-record n (Alone m) (WithCount k count) e = refl
+same-record n (WithCount m count) (Alone k) e = refl
+same-record n (WithCount m count) (WithCount k other) e = refl
 
 -- two lines that are the same are of one number and one record
-pub line-tells : (m n : ℕ) (a b : At) → lineOf m a ≡ lineOf n b → (m ≡ n) × (a ≡ b)
-line-tells m n a b e =
-    let parts = decimal-and-rest m n (rest m a) (rest n b) (no-digit m a) (no-digit n b) (sym (split m a) ∙ e ∙ split n b) in
+pub line-tells : (a b : Told) → lineOf a ≡ lineOf b → (numberOf a ≡ numberOf b) × (recordOf a ≡ recordOf b)
+line-tells a b e =
+    let m = numberOf a in
+    let n = numberOf b in
+    let parts = decimal-and-rest m n (rest m a) (rest n b) (no-digit m a) (no-digit n b) (sym (split a) ∙ e ∙ split b) in
     (parts .0, same-record n a b (rw (parts .0) at (parts .1)))

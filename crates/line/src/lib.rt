@@ -8,34 +8,36 @@ ghost use Rattle.says.specs.Words.{wordsOf, laid};
 ghost use Rattle.line.specs.Decimal.{decimalOf};
 ghost use Rattle.line.specs.Line.{recordPart, gapOf, lineOf};
 ghost use Rattle.line.specs.Put.{putAt};
-use says::At;
+use told::Told;
 
-// The line of a number and its record, as "22 at record 3: not a permitted step", and how many bytes it takes, its end among
-// them. The longest has 20, 31, 2, 64 and 1 bytes.
-pub fn lay(number: u32, at: At, room: &mut [u8; 128]) -> usize
-    ensures { λ r. ⌜ r ≡ length (lineOf number at) ⌝ }
-    ensures { λ _. ⌜ now (room .exit) ≡ laid (lineOf number at) (now (room .entry)) ⌝ }
+// The line of what is told, as "22 at record 3: not a permitted step", and how many bytes it takes, its end among them. The
+// longest has 20, 31, 2, 64 and 1 bytes.
+pub fn lay(told: Told, room: &mut [u8; 128]) -> usize
+    ensures { λ r. ⌜ r ≡ length (lineOf told) ⌝ }
+    ensures { λ _. ⌜ now (room .exit) ≡ laid (lineOf told) (now (room .entry)) ⌝ }
     ensures { λ r. ⌜ Counts r (now (room .exit)) ⌝ }
 {
+    let number = told.number();
     let n = put_decimal(number as u64, room, 0);
-    let n = put_record(at, room, n);
+    let n = put_record(told, room, n);
     let n = put_gap(number, room, n);
     let n = put_words(number, room, n);
     put(b"\n", room, n)
 }
 
-fn put_record(at: At, room: &mut [u8], from: usize) -> usize
+fn put_record(told: Told, room: &mut [u8], from: usize) -> usize
     requires { ⌜ from + 31 ≤ length (now room) ⌝ }
-    ensures { λ r. ⌜ r ≡ from + length (recordPart at) ⌝ }
-    ensures { λ _. ⌜ now (room .exit) ≡ putAt from (recordPart at) (now (room .entry)) ⌝ }
+    ensures { λ r. ⌜ r ≡ from + length (recordPart told) ⌝ }
+    ensures { λ _. ⌜ now (room .exit) ≡ putAt from (recordPart told) (now (room .entry)) ⌝ }
     ensures { λ r. ⌜ r ≤ from + 31 ⌝ }
 {
-    match at {
-        At::Record(record) => {
+    match told {
+        Told::Alone(_) => from,
+        Told::AtRecord(_, lowest) => {
             let n = put(b" at record ", room, from);
-            put_decimal(record as u64, room, n)
+            put_decimal(lowest as u64, room, n)
         }
-        At::Nowhere => from,
+        Told::WithCount(_, _) => from,
     }
 }
 

@@ -11,8 +11,9 @@ use lib.ListN.{length}
 use Rattle.point.specs.declared.Point.{Point}
 use Rattle.point.specs.Point as point
 use Rattle.point.specs.Point.{sameOf}
-use Rattle.stored.specs.Stored.{Floor, floorOf}
-use Rattle.faults.specs.Accepted.{Accepted}
+use Rattle.plan.specs.Plan.{polygonCountIn}
+use Rattle.stored.specs.Stored.{Floor, floorIn}
+use Rattle.edges.specs.Ground.{Ground}
 use Rattle.route.specs.World.{_∈_}
 use Rattle.route.specs.declared.Step.{Step}
 use Rattle.steps.specs.declared.Node.{Node}
@@ -20,27 +21,31 @@ use Rattle.steps.specs.Steps.{stepsFrom, seedNode}
 use Rattle.going.specs.Going.{Stands}
 use Rattle.going.proofs.Stands.{seed-stands}
 use Rattle.queue.specs.Queue.{none, Tree}
-use Rattle.queue.proofs.Change.{queued-is, tree-of-own}
+use Rattle.queue.proofs.Queued.{queued-is, tree-of-own}
 use Rattle.queue.proofs.Lent.{cleared-length, cleared-tree}
 use Rattle.machine.specs.declared.Task.{Task}
 use Rattle.machine.specs.declared.Finish.the-variants.{Filled}
-use Rattle.places.specs.Layout.{Work, Room, nodeAt, depthAt, numberAt, fAt, isQueued, putFloats, putWords, recordPut}
+use Rattle.places.specs.Layout.{Work, Room, wordAt, nodeAt, parentAt, depthAt, numberAt, fAt, isQueued, putFloats, putWords, recordPut}
 use Rattle.machine.specs.Search.{State}
 use Rattle.machine.specs.Search as search
 use Rattle.machine.specs.Sound.{isPlus, Held, Sound, OnRecord, Numbered}
-use Rattle.places.proofs.Rows.{node-same, node-put, depth-put, number-put, put-floats-length, put-words-length, record-length, record-beside}
+use Rattle.places.proofs.Rows.{node-same, node-put, polygon-put, parent-put, depth-put, number-put, put-floats-length, put-words-length, record-length, record-beside}
 use Rattle.places.proofs.Records.{record-root-there, record-for-new}
 use Rattle.machine.proofs.Kept.{Origins, sound-made-all, Finishes, sound-run}
 
-module _ (vs ps : List ℕ) (t : Task) (slots-some : 0 < t .slots) (slots-few : t .slots ≤ 16) (accepted : Accepted (floorOf (t .slots) vs ps)) (vertices : 1 ≤ length vs / 8) (start : Point) (p : ℕ) (listed : p < length ps / (t .slots * 8)) (w : Work) (room : Room (t .places) w) (places : 1 ≤ t .places) where
+module _ (plan vs ps : List ℕ) (t : Task) (g : Ground plan vs ps) (listed : t .trip .from < polygonCountIn plan) (w : Work) (room : Room (t .places) w)
+    (places : 1 ≤ t .places) where
   abbrev f : Floor
-  f = floorOf (t .slots) vs ps
+  f = floorIn plan vs ps
 
   abbrev n : ℕ
   n = t .places
 
+  abbrev start : Point
+  start = t .trip .start
+
   abbrev seed : Node
-  seed = seedNode start p
+  seed = seedNode start (t .trip .from)
 
   abbrev first : State
   first = search.begun f t seed w
@@ -55,11 +60,20 @@ module _ (vs ps : List ℕ) (t : Task) (slots-some : 0 < t .slots) (slots-few : 
   unfolding seedNode
   seeded = refl
 
+  -- the seed has left no other polygon than its own
+  its-left : wordAt (putWords (w .words) 0 1 seed 0 0 0) 0 1 ≡ seed .left
+  unfolding seedNode
+  its-left = polygon-put (w .words) 0 1 seed 0 0 0 words-room (w .floats) point.zero floats-room
+
   its-seed : nodeAt (first .work) 0 ≡ seed
   unfolding search.begun search.planted
   its-seed =
-      node-same (recordPut (putFloats (w .floats) 0 seed point.zero) 0 (seed .root) point.zero) (putFloats (w .floats) 0 seed point.zero) 0 (record-beside (putFloats (w .floats) 0 seed point.zero) 0 (seed .root) point.zero 0) (putWords (w .words) 0 1 seed 0 0 0) (putWords (w .words) 0 1 seed 0 0 0) (λ k b. refl)
-      ∙ node-put (w .words) 0 1 seed 0 0 0 words-room (w .floats) point.zero floats-room seeded
+      node-same (recordPut (putFloats (w .floats) 0 seed point.zero) 0 (seed .root) point.zero) (putFloats (w .floats) 0 seed point.zero) 0 (record-beside (putFloats (w .floats) 0 seed point.zero) 0 (seed .root) point.zero 0) (putWords (w .words) 0 1 seed 0 0 0) (putWords (w .words) 0 1 seed 0 0 0) (λ k b. refl) refl
+      ∙ node-put (w .words) 0 1 seed 0 0 0 words-room (w .floats) point.zero floats-room seeded its-left
+
+  its-parent : parentAt (first .work) 0 ≡ 0
+  unfolding search.begun search.planted
+  its-parent = parent-put (w .words) 0 1 seed 0 0 0 words-room
 
   its-depth : depthAt (first .work) 0 ≡ 0
   unfolding search.begun search.planted
@@ -106,29 +120,33 @@ module _ (vs ps : List ℕ) (t : Task) (slots-some : 0 < t .slots) (slots-few : 
     few = room .few;
   }
 
-  first-held : Held (t .slots) vs ps (first .work) 0
+  first-held : Held plan vs ps (first .work) 0
   first-held = record {
-    stands = subst (Stands (t .slots) vs ps) (sym its-seed) (seed-stands (t .slots) vs ps slots-some slots-few accepted vertices start p listed);
+    stands = subst (Stands plan vs ps) (sym its-seed) (seed-stands plan vs ps g start (t .trip .from) listed);
     plus = subst (λ (m : Node). T (isPlus (m .length))) (sym its-seed) seed-plus;
     points-few = rw (its-seed, its-depth) seed-points;
     depth-few = rw its-depth (omega arith);
   }
 
-  pub sound-begun : Sound vs ps t seed first
+  pub sound-begun : Sound plan vs ps t seed first
   unfolding search.begun
   sound-begun = record {
-    fit = record { room = first-room; records-in = omega arith };
+    fit = record {
+      room = first-room;
+      records-in = omega arith;
+      queue = record {
+        tree = tree-of-own (fAt (first .work)) n nothing (first .work .queue) few empty-tree;
+        below = λ i l q. untrue (sym (none-queued i l) ∙ q);
+      };
+    };
     some = omega arith;
     taken-in = places;
     seed-node = its-seed;
+    seed-parent = its-parent;
     seed-depth = its-depth;
-    held = λ i l. subst (Held (t .slots) vs ps (first .work)) (lowest i l) first-held;
+    held = λ i l. subst (Held plan vs ps (first .work)) (lowest i l) first-held;
     entered = λ i z l. absurd (omega arith);
-    queue = record {
-      tree = tree-of-own (fAt (first .work)) n nothing (first .work .queue) few empty-tree;
-      below = λ i l q. untrue (sym (none-queued i l) ∙ q);
-      no-nan = λ i l q. untrue (sym (none-queued i l) ∙ q);
-    };
+    no-nan = λ i l q. untrue (sym (none-queued i l) ∙ q);
   }
     where
       lowest : (i : ℕ) → i < 1 → 0 ≡ i
@@ -146,31 +164,31 @@ module _ (vs ps : List ℕ) (t : Task) (slots-some : 0 < t .slots) (slots-few : 
 
   -- ---- the seed's steps are made, and the search runs
 
-  origins : Origins vs ps t seed first (search.seedOrigin f t seed)
+  origins : Origins plan vs ps t seed first (search.seedOrigin f t seed)
   unfolding search.seedOrigin search.begun
   origins = record { place-in = omega arith; node-is = sym its-seed; depth-is = sym its-depth }
 
   abbrev steps : List Step
-  steps = stepsFrom f (t .polygon) seed
+  steps = stepsFrom f (t .trip .to) seed
 
-  own : (x : Step) → x ∈ steps → x ∈ stepsFrom f (t .polygon) (search.seedOrigin f t seed .node)
+  own : (x : Step) → x ∈ steps → x ∈ stepsFrom f (t .trip .to) (search.seedOrigin f t seed .node)
   unfolding search.seedOrigin
   own x m = m
 
-  pub sound-seeded : Sound vs ps t seed (search.madeAll f t first (search.seedOrigin f t seed) steps .state)
-  sound-seeded = sound-made-all vs ps t seed slots-some slots-few accepted steps first (search.seedOrigin f t seed) sound-begun origins own .sound
+  pub sound-seeded : Sound plan vs ps t seed (search.madeAll f t first (search.seedOrigin f t seed) steps .state)
+  sound-seeded = sound-made-all plan vs ps t seed g steps first (search.seedOrigin f t seed) sound-begun origins own .sound
 
   pub numbered-seeded : sameOf start start ≡ true → Numbered (search.madeAll f t first (search.seedOrigin f t seed) steps .state)
-  numbered-seeded self = sound-made-all vs ps t seed slots-some slots-few accepted steps first (search.seedOrigin f t seed) sound-begun origins own .numbered (numbered-begun self)
+  numbered-seeded self = sound-made-all plan vs ps t seed g steps first (search.seedOrigin f t seed) sound-begun origins own .numbered (numbered-begun self)
 
   -- however it ends, what it leaves is sound, and where it arrives is a place in the goal polygon
-  pub sound-searched : (budget : ℕ) → Finishes vs ps t seed slots-some slots-few accepted (search.searchedFrom f t start p budget w)
+  pub sound-searched : (budget : ℕ) → Finishes plan vs ps t seed g (search.searchedFrom f t budget w)
   unfolding search.searchedFrom
   sound-searched budget = go (search.madeAll f t first (search.seedOrigin f t seed) steps .full)
     where
       m : search.Making
       m = search.madeAll f t first (search.seedOrigin f t seed) steps
 
-      go : (b : Bool) → Finishes vs ps t seed slots-some slots-few accepted (cond b (search.ending (m .state) Filled) (search.run f t budget (m .state)))
+      go : (b : Bool) → Finishes plan vs ps t seed g (cond b (search.ending (m .state) Filled) (search.run f t budget (m .state)))
       go true = record { sound = sound-seeded; arrives = tt }
-      go false = sound-run vs ps t seed slots-some slots-few accepted budget (m .state) sound-seeded
+      go false = sound-run plan vs ps t seed g budget (m .state) sound-seeded

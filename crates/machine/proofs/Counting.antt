@@ -48,15 +48,15 @@ unfolding taken placed tookPlace
 pops-taken n s o kind node f = pops-kept n (placed s o kind node f) (s .counts .taken) node
 
 module _ (f : Floor) (t : Task) where
-  pops-made : (s : State) (o : Origin) (step : Step) → made f t s o step .state .counts .pops ≡ s .counts .pops
+  pops-made : (s : State) (o : Origin) (step : Step) → made (f .vertices) t s o step .state .counts .pops ≡ s .counts .pops
   unfolding made
-  pops-made s o step = go (isNan (node .length) || isNan (heuristicOf (node .root) (t .goal) (node .interval))) (leb (t .places) (s .counts .taken))
+  pops-made s o step = go (isNan (node .length) || isNan (heuristicOf (node .root) (t .trip .goal) (node .interval))) (leb (t .places) (s .counts .taken))
     where
       node : Node
-      node = enter f (o .node) step
+      node = enter (f .vertices) (o .node) step
 
       value : Float
-      value = add binary32 (node .length) (heuristicOf (node .root) (t .goal) (node .interval))
+      value = add binary32 (node .length) (heuristicOf (node .root) (t .trip .goal) (node .interval))
 
       go : (a b : Bool) → (cond a (making s false) (cond b (making s true) (making (taken (t .places) s o (kindNumber (step .kind)) node value) false))) .state .counts .pops ≡ s .counts .pops
       go true b = refl
@@ -66,10 +66,10 @@ module _ (f : Floor) (t : Task) where
   pub pops-made-all : (steps : List Step) (s : State) (o : Origin) → madeAll f t s o steps .state .counts .pops ≡ s .counts .pops
   unfolding madeAll
   pops-made-all [] s o = refl
-  pops-made-all (step ∷ steps) s o = go (made f t s o step .full) (pops-made-all steps (made f t s o step .state) o)
+  pops-made-all (step ∷ steps) s o = go (made (f .vertices) t s o step .full) (pops-made-all steps (made (f .vertices) t s o step .state) o)
     where
       m : Making
-      m = made f t s o step
+      m = made (f .vertices) t s o step
 
       go : (b : Bool) → madeAll f t (m .state) o steps .state .counts .pops ≡ m .state .counts .pops → (cond b m (madeAll f t (m .state) o steps)) .state .counts .pops ≡ s .counts .pops
       go true rest = pops-made s o step
@@ -84,15 +84,15 @@ module _ (f : Floor) (t : Task) where
 
   pops-visited : (s : State) (i : ℕ) → visited f t s i .state .counts .pops ≡ s .counts .pops
   unfolding visited
-  pops-visited s i = go (isBeaten s (nodeAt (s .work) i)) (isInGoal (t .polygon) (nodeAt (s .work) i))
+  pops-visited s i = go (isBeaten s (nodeAt (s .work) i)) (isInGoal (t .trip .to) (nodeAt (s .work) i))
     where
       m : Making
-      m = madeAll f t s (originAt (s .work) i) (stepsFrom f (t .polygon) (nodeAt (s .work) i))
+      m = madeAll f t s (originAt (s .work) i) (stepsFrom f (t .trip .to) (nodeAt (s .work) i))
 
       go : (a b : Bool) → (cond a (stepping s Goes) (cond b (stepping s (Ends (Arrived i))) (afterMaking f t m))) .state .counts .pops ≡ s .counts .pops
       go true b = refl
       go false true = refl
-      go false false = pops-after m ∙ pops-made-all (stepsFrom f (t .polygon) (nodeAt (s .work) i)) s (originAt (s .work) i)
+      go false false = pops-after m ∙ pops-made-all (stepsFrom f (t .trip .to) (nodeAt (s .work) i)) s (originAt (s .work) i)
 
   pops-popped : (s : State) (i : ℕ) → popped f t s i .counts .pops ≡ s .counts .pops + 1
   unfolding popped counted

@@ -14,8 +14,8 @@ use Rattle.point.specs.Point.{sameOf}
 use Rattle.helpers.specs.Helpers.{heuristicOf}
 use Rattle.cut.specs.declared.SuccessorType.{SuccessorType}
 use Rattle.cut.specs.declared.SuccessorType.the-variants.{LeftNonObservable, Observable, RightNonObservable}
-use Rattle.stored.specs.Stored.{Floor, floorOf}
-use Rattle.faults.specs.Accepted.{Accepted}
+use Rattle.stored.specs.Stored.{Floor, floorIn}
+use Rattle.edges.specs.Ground.{Ground}
 use Rattle.route.specs.declared.Step.{Step}
 use Rattle.route.specs.Step.{kindNumber}
 use Rattle.route.specs.World.{_∈_}
@@ -25,27 +25,27 @@ use Rattle.going.specs.Going.{Stands}
 use Rattle.steps.specs.World.{isInGoal}
 use Rattle.going.proofs.Stands.{enter-stands}
 use Rattle.queue.specs.Queue.{none, put}
-use Rattle.queue.specs.Words.{queuedIn, placed}
-use Rattle.queue.proofs.Words.{tree-same}
 use Rattle.queue.proofs.Scan.{least-held}
-use Rattle.queue.proofs.Change.{placed-tree, placed-length, placed-queued, put-other, tree-of-own}
+use Rattle.queue.proofs.Queued.{put-other}
 use Rattle.machine.specs.declared.Task.{Task}
 use Rattle.machine.specs.declared.Counts.{Counts}
 use Rattle.machine.specs.declared.Origin.{Origin}
 use Rattle.machine.specs.declared.Finish.the-variants.{Arrived, Emptied, Filled, Stopped}
 use Rattle.machine.specs.declared.Outcome.{Outcome}
 use Rattle.machine.specs.declared.Outcome.the-variants.{Goes, Ends}
-use Rattle.places.specs.Layout.{Work, workOf, wordAt, nodeAt, stepAt, parentAt, depthAt, numberAt, fAt, isQueued, putNode, recordFor, putRecord, recordPut, putDistance, distancePut, putQueued, leastIn}
+use Rattle.places.specs.Layout.{Work, workOf, wordAt, nodeIn, nodeAt, stepAt, parentAt, depthAt, numberAt, fAt, isQueued, putNode, recordFor, putRecord, recordPut, putDistance, distancePut, putQueued, leastIn}
 use Rattle.machine.specs.Search.{State, stateOf, tookPlace, tookRecord, counted}
 use Rattle.machine.specs.Search as search
 use Rattle.machine.specs.Sound.{isPlus, Entered, Held, Sound, OnRecord, Numbered}
-use Rattle.places.proofs.Rows.{SameFloats, SameWords, which, node-same, step-same, f-same, parent-same, depth-same, number-same, put-floats-length, put-words-length, floats-elsewhere, words-elsewhere, f-put, node-put, step-put, parent-put, depth-put, number-put, record-length, record-beside, distance-length, distance-beside}
+use Rattle.places.proofs.Rows.{SameFloats, SameWords, which, node-same, step-same, f-same, parent-same, depth-same, number-same, floats-elsewhere, words-elsewhere, f-put, node-put, step-put, parent-put, depth-put, number-put, record-length, record-beside, distance-length, distance-beside}
+use Rattle.places.proofs.Queued.{put-queued}
+use Rattle.machine.proofs.Fitting.{recorded-taken, fit-beside, fit-placed, fit-queued}
 use Rattle.machine.proofs.Numbers.{made-self, on-taken, own-taken}
 use Rattle.machine.proofs.Plus.{add-plus, add-no-nan, distance-plus, heuristic-plus, plus-if}
 
-module _ (vs ps : List ℕ) (t : Task) (seed : Node) where
+module _ (plan vs ps : List ℕ) (t : Task) (seed : Node) where
   abbrev f : Floor
-  f = floorOf (t .slots) vs ps
+  f = floorIn plan vs ps
 
   abbrev n : ℕ
   n = t .places
@@ -53,9 +53,11 @@ module _ (vs ps : List ℕ) (t : Task) (seed : Node) where
   -- ---- places whose rows are the same
 
   -- the rows of the places below some number are in both buffers alike
-  module _ (new old : Work) (low : ℕ) (fs : (i : ℕ) → i < low → SameFloats (new .floats) (old .floats) i) (ws : (i : ℕ) → i < low → SameWords (new .words) (old .words) i) where
+  module _ (new old : Work) (low : ℕ) (fs : (i : ℕ) → i < low → SameFloats (new .floats) (old .floats) i)
+      (ws : (i : ℕ) → i < low → SameWords (new .words) (old .words) i)
+      (lefts : (i : ℕ) → i < low → wordAt (new .words) (parentAt old i) 1 ≡ wordAt (old .words) (parentAt old i) 1) where
     node-kept : (i : ℕ) → i < low → nodeAt new i ≡ nodeAt old i
-    node-kept i l = node-same (new .floats) (old .floats) i (fs i l) (new .words) (old .words) (ws i l)
+    node-kept i l = node-same (new .floats) (old .floats) i (fs i l) (new .words) (old .words) (ws i l) (lefts i l)
 
     step-kept : (i : ℕ) → i < low → stepAt new i ≡ stepAt old i
     step-kept i l = step-same (new .floats) (old .floats) i (fs i l) (new .words) (old .words) (ws i l)
@@ -69,12 +71,12 @@ module _ (vs ps : List ℕ) (t : Task) (seed : Node) where
     number-kept : (i : ℕ) → i < low → numberAt new i ≡ numberAt old i
     number-kept i l = number-same (new .words) (old .words) i (ws i l)
 
-    held-kept : (i : ℕ) → i < low → Held (t .slots) vs ps old i → Held (t .slots) vs ps new i
+    held-kept : (i : ℕ) → i < low → Held plan vs ps old i → Held plan vs ps new i
     held-kept i l h =
         let e = node-kept i l in
         let d = depth-kept i l in
         record {
-          stands = subst (Stands (t .slots) vs ps) (sym e) (h .stands);
+          stands = subst (Stands plan vs ps) (sym e) (h .stands);
           plus = subst (λ (m : Node). T (isPlus (m .length))) (sym e) (h .plus);
           points-few = rw (e, d) (h .points-few);
           depth-few = rw d (h .depth-few);
@@ -93,85 +95,59 @@ module _ (vs ps : List ℕ) (t : Task) (seed : Node) where
   -- ---- distance records
 
   -- the floats of the nodes are as they were, the counters agree: nothing else changed
-  sound-beside : (s : State) (floats : List Float) (c : Counts) → Sound vs ps t seed s → ((i : ℕ) → SameFloats floats (s .work .floats) i) → length floats ≡ length (s .work .floats)
-      → c .taken ≡ s .counts .taken → c .records ≤ c .taken → Sound vs ps t seed (stateOf (workOf floats (s .work .words) (s .work .queue)) c)
+  sound-beside : (s : State) (floats : List Float) (c : Counts) → Sound plan vs ps t seed s → ((i : ℕ) → SameFloats floats (s .work .floats) i) → length floats ≡ length (s .work .floats)
+      → c .taken ≡ s .counts .taken → c .records ≤ c .taken → Sound plan vs ps t seed (stateOf (workOf floats (s .work .words) (s .work .queue)) c)
   sound-beside s floats c h same long taken few =
       let new = workOf floats (s .work .words) (s .work .queue) in
-      let held = held-kept new (s .work) (s .counts .taken) (λ i l. same i) (λ i l k b. refl) in
-      let entered = entered-kept new (s .work) (s .counts .taken) (λ i l. same i) (λ i l k b. refl) in
-      let node = node-kept new (s .work) (s .counts .taken) (λ i l. same i) (λ i l k b. refl) in
+      let held = held-kept new (s .work) (s .counts .taken) (λ i l. same i) (λ i l k b. refl) (λ i l. refl) in
+      let entered = entered-kept new (s .work) (s .counts .taken) (λ i l. same i) (λ i l k b. refl) (λ i l. refl) in
+      let node = node-kept new (s .work) (s .counts .taken) (λ i l. same i) (λ i l k b. refl) (λ i l. refl) in
       record {
-        fit = record {
-          room = record { floats-room = rw long (h .fit .room .floats-room); words-room = h .fit .room .words-room; queue-room = h .fit .room .queue-room; few = h .fit .room .few };
-          records-in = few;
-        };
+        fit = fit-beside t s floats c (h .fit) same long taken few;
         some = rw taken (h .some);
         taken-in = rw taken (h .taken-in);
         seed-node = node 0 (h .some) ∙ h .seed-node;
+        seed-parent = h .seed-parent;
         seed-depth = h .seed-depth;
         held = λ i l. held i (rw taken at l) (h .held i (rw taken at l));
         entered = λ i z l. entered i (rw taken at l) (h .entered i z (rw taken at l));
-        queue = record {
-          tree = tree-same (fAt (s .work)) (fAt new) n (isQueued n (s .work)) (isQueued n (s .work)) (omega (arith, h .fit .room .few)) (λ i l. refl) (λ i l q. sym (f-same floats (s .work .floats) i (same i))) (s .work .queue) (h .queue .tree);
-          below = λ i l q. rw taken (h .queue .below i l q);
-          no-nan = λ i l q. rw (f-same floats (s .work .floats) i (same i)) (h .queue .no-nan i l q);
-        };
+        no-nan = λ i l q. rw (f-same floats (s .work .floats) i (same i)) (h .no-nan i l q);
       }
 
-  pub sound-recorded : (s : State) (node : Node) → Sound vs ps t seed s → s .counts .records < s .counts .taken → Sound vs ps t seed (search.recorded s node)
+  pub sound-recorded : (s : State) (node : Node) → Sound plan vs ps t seed s → s .counts .records < s .counts .taken → Sound plan vs ps t seed (search.recorded s node)
   unfolding search.recorded tookRecord
   sound-recorded s node h room = go (ltb (recordFor (s .work .floats) (s .counts .records) (node .root)) (s .counts .records))
     where
       r : ℕ
       r = recordFor (s .work .floats) (s .counts .records) (node .root)
 
-      go : (b : Bool) → Sound vs ps t seed (cond b (stateOf (putDistance (s .work) r (node .length)) (s .counts)) (stateOf (putRecord (s .work) r (node .root) (node .length)) (tookRecord (s .counts))))
+      go : (b : Bool) → Sound plan vs ps t seed (cond b (stateOf (putDistance (s .work) r (node .length)) (s .counts)) (stateOf (putRecord (s .work) r (node .root) (node .length)) (tookRecord (s .counts))))
       go true = sound-beside s (distancePut (s .work .floats) r (node .length)) (s .counts) h (distance-beside (s .work .floats) r (node .length)) (distance-length (s .work .floats) r (node .length)) refl (h .fit .records-in)
       go false = sound-beside s (recordPut (s .work .floats) r (node .root) (node .length)) (tookRecord (s .counts)) h (record-beside (s .work .floats) r (node .root) (node .length)) (record-length (s .work .floats) r (node .root) (node .length)) refl (omega (arith, room))
 
   -- ---- the queue
 
-  pub sound-queued : (s : State) (c : Counts) (i : ℕ) (b : Bool) → Sound vs ps t seed s → c .taken ≡ s .counts .taken → c .records ≡ s .counts .records → i < s .counts .taken → T (not (isNan (fAt (s .work) i)))
-      → Sound vs ps t seed (stateOf (putQueued n (s .work) i b) c)
+  pub sound-queued : (s : State) (c : Counts) (i : ℕ) (b : Bool) → Sound plan vs ps t seed s → c .taken ≡ s .counts .taken → c .records ≡ s .counts .records → i < s .counts .taken → T (not (isNan (fAt (s .work) i)))
+      → Sound plan vs ps t seed (stateOf (putQueued n (s .work) i b) c)
   sound-queued s c i b h taken records low number = record {
-    fit = record {
-      room = record { floats-room = h .fit .room .floats-room; words-room = h .fit .room .words-room; queue-room = rw (placed-length (fAt (s .work)) n i b (s .work .queue)) (h .fit .room .queue-room); few = h .fit .room .few };
-      records-in = rw (records, taken) (h .fit .records-in);
-    };
+    fit = fit-queued t s c i b (h .fit) taken records low;
     some = rw taken (h .some);
     taken-in = rw taken (h .taken-in);
     seed-node = h .seed-node;
+    seed-parent = h .seed-parent;
     seed-depth = h .seed-depth;
-    held = λ j l. held-kept (putQueued n (s .work) i b) (s .work) (s .counts .taken) (λ i l k b. refl) (λ i l k b. refl) j (rw taken at l) (h .held j (rw taken at l));
-    entered = λ j z l. entered-kept (putQueued n (s .work) i b) (s .work) (s .counts .taken) (λ i l k b. refl) (λ i l k b. refl) j (rw taken at l) (h .entered j z (rw taken at l));
-    queue = record {
-      tree = tree-of-own (fAt (s .work)) n (put (isQueued n (s .work)) i b) words few (placed-tree (fAt (s .work)) n (isQueued n (s .work)) i in-places b (s .work .queue) (h .queue .tree));
-      below = λ j l q. rw taken (queued-below j l (which i j) (sym (told j l) ∙ q));
-      no-nan = λ j l q. queued-number j l (which i j) (sym (told j l) ∙ q);
-    };
+    held = λ j l. held-kept (putQueued n (s .work) i b) (s .work) (s .counts .taken) (λ i l k b. refl) (λ i l k b. refl) (λ i l. refl) j (rw taken at l) (h .held j (rw taken at l));
+    entered = λ j z l. entered-kept (putQueued n (s .work) i b) (s .work) (s .counts .taken) (λ i l k b. refl) (λ i l k b. refl) (λ i l. refl) j (rw taken at l) (h .entered j z (rw taken at l));
+    no-nan = λ j l q. queued-number j l (which i j) (sym (put-queued n (s .work) i b few j l) ∙ q);
   }
     where
-      words : List ℕ
-      words = placed (fAt (s .work)) n i b (s .work .queue)
-
       few : n ≤ none
       few = omega (arith, h .fit .room .few)
 
-      in-places : i < n
-      in-places = omega (arith, low, h .taken-in)
-
-      told : (j : ℕ) → j < n → queuedIn n words j ≡ put (isQueued n (s .work)) i b j
-      told j l = placed-queued (fAt (s .work)) n i b (s .work .queue) few (h .fit .room .queue-room) in-places j l
-
-      queued-below : (j : ℕ) → j < n → (j < i) ⊎ ((j ≡ i) ⊎ (i < j)) → put (isQueued n (s .work)) i b j ≡ true → j < s .counts .taken
-      queued-below j l (inl d) q = omega (arith, d, low)
-      queued-below j l (inr (inl e)) q = omega (arith, e, low)
-      queued-below j l (inr (inr d)) q = h .queue .below j l (sym (put-other (isQueued n (s .work)) i b j (λ e. omega arith)) ∙ q)
-
       queued-number : (j : ℕ) → j < n → (j < i) ⊎ ((j ≡ i) ⊎ (i < j)) → put (isQueued n (s .work)) i b j ≡ true → T (not (isNan (fAt (s .work) j)))
-      queued-number j l (inl d) q = h .queue .no-nan j l (sym (put-other (isQueued n (s .work)) i b j (λ e. omega arith)) ∙ q)
+      queued-number j l (inl d) q = h .no-nan j l (sym (put-other (isQueued n (s .work)) i b j (λ e. omega arith)) ∙ q)
       queued-number j l (inr (inl e)) q = subst (λ (m : ℕ). T (not (isNan (fAt (s .work) m)))) (sym e) number
-      queued-number j l (inr (inr d)) q = h .queue .no-nan j l (sym (put-other (isQueued n (s .work)) i b j (λ e. omega arith)) ∙ q)
+      queued-number j l (inr (inr d)) q = h .no-nan j l (sym (put-other (isQueued n (s .work)) i b j (λ e. omega arith)) ∙ q)
 
   -- ---- what stays when more is put
 
@@ -213,23 +189,19 @@ module _ (vs ps : List ℕ) (t : Task) (seed : Node) where
         go true = refl
         go false = refl
 
-    recorded-taken : search.recorded s node .counts .taken ≡ s .counts .taken
-    unfolding search.recorded tookRecord
-    recorded-taken = go (ltb r (s .counts .records))
-      where
-        go : (b : Bool) → (cond b (stateOf (putDistance (s .work) r (node .length)) (s .counts)) (stateOf (putRecord (s .work) r (node .root) (node .length)) (tookRecord (s .counts)))) .counts .taken ≡ s .counts .taken
-        go true = refl
-        go false = refl
-
     same-words : (i : ℕ) → SameWords (search.recorded s node .work .words) (s .work .words) i
     same-words i k b = ap (λ (ws : List ℕ). wordAt ws i k) recorded-words
 
+    same-lefts : (i : ℕ) → i < s .counts .taken
+        → wordAt (search.recorded s node .work .words) (parentAt (s .work) i) 1 ≡ wordAt (s .work .words) (parentAt (s .work) i) 1
+    same-lefts i l = same-words (parentAt (s .work) i) 1 (omega arith)
+
     grows-recorded : Grows s (search.recorded s node)
     grows-recorded = record {
-      more = rw recorded-taken (omega arith);
-      node-as = node-kept (search.recorded s node .work) (s .work) (s .counts .taken) (λ i l. recorded-floats i) (λ i l. same-words i);
-      depth-as = depth-kept (search.recorded s node .work) (s .work) (s .counts .taken) (λ i l. recorded-floats i) (λ i l. same-words i);
-      number-as = number-kept (search.recorded s node .work) (s .work) (s .counts .taken) (λ i l. recorded-floats i) (λ i l. same-words i);
+      more = rw (recorded-taken s node) (omega arith);
+      node-as = node-kept (search.recorded s node .work) (s .work) (s .counts .taken) (λ i l. recorded-floats i) (λ i l. same-words i) same-lefts;
+      depth-as = depth-kept (search.recorded s node .work) (s .work) (s .counts .taken) (λ i l. recorded-floats i) (λ i l. same-words i) same-lefts;
+      number-as = number-kept (search.recorded s node .work) (s .work) (s .counts .taken) (λ i l. recorded-floats i) (λ i l. same-words i) same-lefts;
     }
 
   -- ---- a node takes the next place
@@ -240,10 +212,10 @@ module _ (vs ps : List ℕ) (t : Task) (seed : Node) where
     pub node-is : o .node ≡ nodeAt (s .work) (o .place)
     pub depth-is : o .depth ≡ depthAt (s .work) (o .place)
 
-  module _ (slots-some : 0 < t .slots) (slots-few : t .slots ≤ 16) (accepted : Accepted f) where
-    module _ (s : State) (o : Origin) (step : Step) (value : Float) (h : Sound vs ps t seed s) (from : Origins s o) (permitted : step ∈ stepsFrom f (t .polygon) (o .node)) (space : s .counts .taken < n) where
+  module _ (g : Ground plan vs ps) where
+    module _ (s : State) (o : Origin) (step : Step) (value : Float) (h : Sound plan vs ps t seed s) (from : Origins s o) (permitted : step ∈ stepsFrom f (t .trip .to) (o .node)) (space : s .counts .taken < n) where
       abbrev node : Node
-      node = enter f (o .node) step
+      node = enter (f .vertices) (o .node) step
 
       abbrev kind : ℕ
       kind = kindNumber (step .kind)
@@ -257,22 +229,22 @@ module _ (vs ps : List ℕ) (t : Task) (seed : Node) where
       abbrev new : Work
       new = putNode (s .work) i kind node value (o .place) (o .depth + 1) number
 
-      origin-held : Held (t .slots) vs ps (s .work) (o .place)
+      origin-held : Held plan vs ps (s .work) (o .place)
       origin-held = h .held (o .place) (from .place-in)
 
-      node-stands : Stands (t .slots) vs ps node
-      node-stands = enter-stands (t .slots) vs ps slots-some slots-few accepted (t .polygon) (o .node) (subst (Stands (t .slots) vs ps) (sym (from .node-is)) (origin-held .stands)) step permitted
+      node-stands : Stands plan vs ps node
+      node-stands = enter-stands plan vs ps g (t .trip .to) (o .node) (subst (Stands plan vs ps) (sym (from .node-is)) (origin-held .stands)) step permitted
 
       origin-plus : T (isPlus (o .node .length))
       origin-plus = subst (λ (m : Node). T (isPlus (m .length))) (sym (from .node-is)) (origin-held .plus)
 
       pub node-plus : T (isPlus (node .length))
       unfolding enter
-      node-plus = plus-if (sameOf (rootAfter f (o .node) (step .kind)) (o .node .root)) _ _ origin-plus (add-plus binary32 _ _ origin-plus (distance-plus _ _))
+      node-plus = plus-if (sameOf (rootAfter (f .vertices) (o .node) (step .kind)) (o .node .root)) _ _ origin-plus (add-plus binary32 _ _ origin-plus (distance-plus _ _))
 
       node-points : node .points ≤ o .node .points + 1
       unfolding enter
-      node-points = go (sameOf (rootAfter f (o .node) (step .kind)) (o .node .root))
+      node-points = go (sameOf (rootAfter (f .vertices) (o .node) (step .kind)) (o .node .root))
         where
           go : (b : Bool) → cond b (o .node .points) (o .node .points + 1) ≤ o .node .points + 1
           go true = omega arith
@@ -299,8 +271,15 @@ module _ (vs ps : List ℕ) (t : Task) (seed : Node) where
           go RightNonObservable = refl
           go LeftNonObservable = refl
 
+      -- the polygon that it left is its parent's
+      its-left : wordAt (new .words) (o .place) 1 ≡ node .left
+      unfolding enter nodeIn
+      its-left =
+          words-elsewhere (s .work .words) i kind node (o .place) (o .depth + 1) number (o .place) 1 (omega arith) (λ e. omega (arith, e, from .place-in))
+          ∙ sym (ap (λ (m : Node). m .polygon) (from .node-is))
+
       pub its-node : nodeAt new i ≡ node
-      its-node = node-put (s .work .words) i kind node (o .place) (o .depth + 1) number words-room (s .work .floats) value floats-room seed-kind
+      its-node = node-put (s .work .words) i kind node (o .place) (o .depth + 1) number words-room (s .work .floats) value floats-room seed-kind its-left
 
       its-step : stepAt new i ≡ step
       unfolding enter
@@ -321,21 +300,29 @@ module _ (vs ps : List ℕ) (t : Task) (seed : Node) where
       words-below : (j : ℕ) → j < i → SameWords (new .words) (s .work .words) j
       words-below j l k b = words-elsewhere (s .work .words) i kind node (o .place) (o .depth + 1) number j k b (λ e. omega arith)
 
+      -- every parent is a place that was taken before
+      parent-low : (j : ℕ) → j < i → parentAt (s .work) j < i
+      parent-low zero l = omega (arith, h .seed-parent, h .some)
+      parent-low (suc j) l = omega (arith, h .entered (suc j) (omega arith) l .lower, l)
+
+      lefts-below : (j : ℕ) → j < i → wordAt (new .words) (parentAt (s .work) j) 1 ≡ wordAt (s .work .words) (parentAt (s .work) j) 1
+      lefts-below j l = words-below (parentAt (s .work) j) (parent-low j l) 1 (omega arith)
+
       pub node-below : (j : ℕ) → j < i → nodeAt new j ≡ nodeAt (s .work) j
-      node-below = node-kept new (s .work) i floats-below words-below
+      node-below = node-kept new (s .work) i floats-below words-below lefts-below
 
       pub depth-below : (j : ℕ) → j < i → depthAt new j ≡ depthAt (s .work) j
-      depth-below = depth-kept new (s .work) i floats-below words-below
+      depth-below = depth-kept new (s .work) i floats-below words-below lefts-below
 
       number-below : (j : ℕ) → j < i → numberAt new j ≡ numberAt (s .work) j
-      number-below = number-kept new (s .work) i floats-below words-below
+      number-below = number-kept new (s .work) i floats-below words-below lefts-below
 
       its-number : numberAt new i ≡ number
       its-number = number-put (s .work .words) i kind node (o .place) (o .depth + 1) number words-room
 
-      new-held : Held (t .slots) vs ps new i
+      new-held : Held plan vs ps new i
       new-held = record {
-        stands = subst (Stands (t .slots) vs ps) (sym its-node) node-stands;
+        stands = subst (Stands plan vs ps) (sym its-node) node-stands;
         plus = subst (λ (m : Node). T (isPlus (m .length))) (sym its-node) node-plus;
         points-few = rw (its-node, its-depth) (omega (arith, node-points, origin-points));
         depth-few = rw its-depth (omega (arith, origin-depth, from .place-in));
@@ -352,38 +339,27 @@ module _ (vs ps : List ℕ) (t : Task) (seed : Node) where
       f-below : (j : ℕ) → j < i → fAt new j ≡ fAt (s .work) j
       f-below j l = f-same (new .floats) (s .work .floats) j (floats-below j l)
 
-      pub sound-placed : Sound vs ps t seed (search.placed s o kind node value)
+      pub sound-placed : Sound plan vs ps t seed (search.placed s o kind node value)
       unfolding search.placed tookPlace
       sound-placed = record {
-        fit = record {
-          room = record {
-            floats-room = rw (put-floats-length (s .work .floats) i node value) (h .fit .room .floats-room);
-            words-room = rw (put-words-length (s .work .words) i kind node (o .place) (o .depth + 1) number) (h .fit .room .words-room);
-            queue-room = h .fit .room .queue-room;
-            few = h .fit .room .few;
-          };
-          records-in = omega (arith, h .fit .records-in);
-        };
+        fit = fit-placed t s o kind node value (h .fit);
         some = omega arith;
         taken-in = omega (arith, space);
         seed-node = node-below 0 (h .some) ∙ h .seed-node;
+        seed-parent = parent-same (new .words) (s .work .words) 0 (words-below 0 (h .some)) ∙ h .seed-parent;
         seed-depth = depth-below 0 (h .some) ∙ h .seed-depth;
         held = λ j l. held-at j l (which i j);
         entered = λ j z l. entered-at j z l (which i j);
-        queue = record {
-          tree = tree-same (fAt (s .work)) (fAt new) n (isQueued n (s .work)) (isQueued n (s .work)) (omega (arith, h .fit .room .few)) (λ j l. refl) (λ j l q. sym (f-below j (h .queue .below j l q))) (s .work .queue) (h .queue .tree);
-          below = λ j l q. omega (arith, h .queue .below j l q);
-          no-nan = λ j l q. rw (f-below j (h .queue .below j l q)) (h .queue .no-nan j l q);
-        };
+        no-nan = λ j l q. rw (f-below j (h .fit .queue .below j l q)) (h .no-nan j l q);
       }
         where
-          held-at : (j : ℕ) → j < i + 1 → (j < i) ⊎ ((j ≡ i) ⊎ (i < j)) → Held (t .slots) vs ps new j
-          held-at j l (inl d) = held-kept new (s .work) i floats-below words-below j d (h .held j d)
-          held-at j l (inr (inl e)) = subst (Held (t .slots) vs ps new) (sym e) new-held
+          held-at : (j : ℕ) → j < i + 1 → (j < i) ⊎ ((j ≡ i) ⊎ (i < j)) → Held plan vs ps new j
+          held-at j l (inl d) = held-kept new (s .work) i floats-below words-below lefts-below j d (h .held j d)
+          held-at j l (inr (inl e)) = subst (Held plan vs ps new) (sym e) new-held
           held-at j l (inr (inr d)) = absurd (omega (arith, l, d))
 
           entered-at : (j : ℕ) → 0 < j → j < i + 1 → (j < i) ⊎ ((j ≡ i) ⊎ (i < j)) → Entered f t new j
-          entered-at j z l (inl d) = entered-kept new (s .work) i floats-below words-below j d (h .entered j z d)
+          entered-at j z l (inl d) = entered-kept new (s .work) i floats-below words-below lefts-below j d (h .entered j z d)
           entered-at j z l (inr (inl e)) = subst (Entered f t new) (sym e) new-entered
           entered-at j z l (inr (inr d)) = absurd (omega (arith, l, d))
 
@@ -407,11 +383,11 @@ module _ (vs ps : List ℕ) (t : Task) (seed : Node) where
       unfolding search.placed
       f-down = f-same (recorded-down .work .floats) (put-down .work .floats) i (recorded-floats put-down node i) ∙ its-f
 
-      pub sound-taken : T (not (isNan value)) → Sound vs ps t seed (search.taken n s o kind node value)
+      pub sound-taken : T (not (isNan value)) → Sound plan vs ps t seed (search.taken n s o kind node value)
       unfolding search.taken search.kept search.queued
       sound-taken number = go (search.isBeaten put-down node)
         where
-          go : (b : Bool) → Sound vs ps t seed (cond b put-down (stateOf (putQueued n (recorded-down .work) i true) (recorded-down .counts)))
+          go : (b : Bool) → Sound plan vs ps t seed (cond b put-down (stateOf (putQueued n (recorded-down .work) i true) (recorded-down .counts)))
           go true = sound-placed
           go false = sound-queued recorded-down (recorded-down .counts) i true (sound-recorded put-down node sound-placed records-left) refl refl (rw (recorded-taken put-down node, taken-down) (omega arith)) (rw f-down number)
 
@@ -469,12 +445,12 @@ module _ (vs ps : List ℕ) (t : Task) (seed : Node) where
 
     -- ---- nodes are made
 
-    made-plus : (s : State) (o : Origin) → Sound vs ps t seed s → Origins s o → T (isPlus (o .node .length))
+    made-plus : (s : State) (o : Origin) → Sound plan vs ps t seed s → Origins s o → T (isPlus (o .node .length))
     made-plus s o h from = subst (λ (m : Node). T (isPlus (m .length))) (sym (from .node-is)) (h .held (o .place) (from .place-in) .plus)
 
     -- a state after a step was made, from one that was sound
     pub record Makes (s : State) (o : Origin) (after : State) : Type 0 where
-      pub sound : Sound vs ps t seed after
+      pub sound : Sound plan vs ps t seed after
       pub grows : Grows s after
       pub numbered : Numbered s → Numbered after
 
@@ -485,20 +461,20 @@ module _ (vs ps : List ℕ) (t : Task) (seed : Node) where
       depth-is = from .depth-is ∙ sym (g .depth-as (o .place) (from .place-in));
     }
 
-    pub sound-made : (s : State) (o : Origin) (step : Step) → Sound vs ps t seed s → Origins s o → step ∈ stepsFrom f (t .polygon) (o .node) → Makes s o (search.made f t s o step .state)
+    pub sound-made : (s : State) (o : Origin) (step : Step) → Sound plan vs ps t seed s → Origins s o → step ∈ stepsFrom f (t .trip .to) (o .node) → Makes s o (search.made (f .vertices) t s o step .state)
     unfolding search.made
-    sound-made s o step h from permitted = go (isNan (enter f (o .node) step .length)) refl (isNan (heuristicOf (enter f (o .node) step .root) (t .goal) (enter f (o .node) step .interval))) refl (leb n (s .counts .taken)) refl
+    sound-made s o step h from permitted = go (isNan (enter (f .vertices) (o .node) step .length)) refl (isNan (heuristicOf (enter (f .vertices) (o .node) step .root) (t .trip .goal) (enter (f .vertices) (o .node) step .interval))) refl (leb n (s .counts .taken)) refl
       where
         node' : Node
-        node' = enter f (o .node) step
+        node' = enter (f .vertices) (o .node) step
 
         value' : Float
-        value' = add binary32 (node' .length) (heuristicOf (node' .root) (t .goal) (node' .interval))
+        value' = add binary32 (node' .length) (heuristicOf (node' .root) (t .trip .goal) (node' .interval))
 
         no : (b : Bool) → b ≡ false → T (not b)
         no b e = subst (λ (c : Bool). T (not c)) (sym e) tt
 
-        go : (a : Bool) → isNan (node' .length) ≡ a → (b : Bool) → isNan (heuristicOf (node' .root) (t .goal) (node' .interval)) ≡ b → (c : Bool) → leb n (s .counts .taken) ≡ c
+        go : (a : Bool) → isNan (node' .length) ≡ a → (b : Bool) → isNan (heuristicOf (node' .root) (t .trip .goal) (node' .interval)) ≡ b → (c : Bool) → leb n (s .counts .taken) ≡ c
             → Makes s o ((cond (a || b) (search.making s false) (cond c (search.making s true) (search.making (search.taken n s o (kindNumber (step .kind)) node' value') false))) .state)
         go true x b y c z = record { sound = h; grows = grows-self s; numbered = λ m. m }
         go false x true y c z = record { sound = h; grows = grows-self s; numbered = λ m. m }
@@ -506,20 +482,20 @@ module _ (vs ps : List ℕ) (t : Task) (seed : Node) where
         go false x false y false z = record {
           sound = sound-taken s o step value' h from permitted (leb-false n (s .counts .taken) z) (add-no-nan binary32 _ _ (node-plus s o step value' h from permitted (leb-false n (s .counts .taken) z)) (heuristic-plus _ _ _) (no _ x) (no _ y));
           grows = grows-taken s o step value' h from permitted (leb-false n (s .counts .taken) z);
-          numbered = numbered-taken s o step value' h from permitted (leb-false n (s .counts .taken) z) (made-self f (o .node) step x);
+          numbered = numbered-taken s o step value' h from permitted (leb-false n (s .counts .taken) z) (made-self (f .vertices) (o .node) step x);
         }
 
-    pub sound-made-all : (steps : List Step) (s : State) (o : Origin) → Sound vs ps t seed s → Origins s o → ((step : Step) → step ∈ steps → step ∈ stepsFrom f (t .polygon) (o .node)) → Makes s o (search.madeAll f t s o steps .state)
+    pub sound-made-all : (steps : List Step) (s : State) (o : Origin) → Sound plan vs ps t seed s → Origins s o → ((step : Step) → step ∈ steps → step ∈ stepsFrom f (t .trip .to) (o .node)) → Makes s o (search.madeAll f t s o steps .state)
     unfolding search.madeAll
     sound-made-all [] s o h from permitted = record { sound = h; grows = grows-self s; numbered = λ m. m }
     sound-made-all (step ∷ steps) s o h from permitted =
         let m = sound-made s o step h from (permitted step (List·Memᴰ·head refl)) in
-        go (search.made f t s o step .full) m (sound-made-all steps (search.made f t s o step .state) o (m .sound) (origins-on s (search.made f t s o step .state) o (m .grows) from) (λ x e. permitted x (List·Memᴰ·tail e)))
+        go (search.made (f .vertices) t s o step .full) m (sound-made-all steps (search.made (f .vertices) t s o step .state) o (m .sound) (origins-on s (search.made (f .vertices) t s o step .state) o (m .grows) from) (λ x e. permitted x (List·Memᴰ·tail e)))
       where
-        go : (b : Bool) → Makes s o (search.made f t s o step .state) → Makes (search.made f t s o step .state) o (search.madeAll f t (search.made f t s o step .state) o steps .state)
-            → Makes s o ((cond b (search.made f t s o step) (search.madeAll f t (search.made f t s o step .state) o steps)) .state)
+        go : (b : Bool) → Makes s o (search.made (f .vertices) t s o step .state) → Makes (search.made (f .vertices) t s o step .state) o (search.madeAll f t (search.made (f .vertices) t s o step .state) o steps .state)
+            → Makes s o ((cond b (search.made (f .vertices) t s o step) (search.madeAll f t (search.made (f .vertices) t s o step .state) o steps)) .state)
         go true m r = m
-        go false m r = record { sound = r .sound; grows = grows-on s (search.made f t s o step .state) (search.madeAll f t (search.made f t s o step .state) o steps .state) (m .grows) (r .grows); numbered = λ x. r .numbered (m .numbered x) }
+        go false m r = record { sound = r .sound; grows = grows-on s (search.made (f .vertices) t s o step .state) (search.madeAll f t (search.made (f .vertices) t s o step .state) o steps .state) (m .grows) (r .grows); numbered = λ x. r .numbered (m .numbered x) }
 
     -- ---- a step
 
@@ -529,57 +505,57 @@ module _ (vs ps : List ℕ) (t : Task) (seed : Node) where
 
     -- where a search arrived: a place that is taken, in the goal polygon
     abbrev pub Arrives : State → Outcome → Type 0
-    Arrives s (Ends (Arrived i)) = (i < s .counts .taken) × (isInGoal (t .polygon) (nodeAt (s .work) i) ≡ true)
+    Arrives s (Ends (Arrived i)) = (i < s .counts .taken) × (isInGoal (t .trip .to) (nodeAt (s .work) i) ≡ true)
     Arrives s (Ends Emptied) = Unit {0}
     Arrives s (Ends Filled) = Unit {0}
     Arrives s (Ends Stopped) = Unit {0}
     Arrives s Goes = Unit {0}
 
     pub record Steps (after : search.Stepping) : Type 0 where
-      pub sound : Sound vs ps t seed (after .state)
+      pub sound : Sound plan vs ps t seed (after .state)
       pub arrives : Arrives (after .state) (after .outcome)
 
-    after-making : (m : search.Making) → Sound vs ps t seed (m .state) → Steps (search.afterMaking f t m)
+    after-making : (m : search.Making) → Sound plan vs ps t seed (m .state) → Steps (search.afterMaking f t m)
     after-making m h = go (m .full)
       where
         go : (b : Bool) → Steps (cond b (search.stepping (m .state) (Ends Filled)) (search.stepping (m .state) Goes))
         go true = record { sound = h; arrives = tt }
         go false = record { sound = h; arrives = tt }
 
-    own-steps : (s : State) (i : ℕ) (x : Step) → x ∈ stepsFrom f (t .polygon) (nodeAt (s .work) i) → x ∈ stepsFrom f (t .polygon) (search.originAt (s .work) i .node)
+    own-steps : (s : State) (i : ℕ) (x : Step) → x ∈ stepsFrom f (t .trip .to) (nodeAt (s .work) i) → x ∈ stepsFrom f (t .trip .to) (search.originAt (s .work) i .node)
     unfolding search.originAt
     own-steps s i x m = m
 
-    pub sound-visited : (s : State) (i : ℕ) → Sound vs ps t seed s → i < s .counts .taken → Steps (search.visited f t s i)
+    pub sound-visited : (s : State) (i : ℕ) → Sound plan vs ps t seed s → i < s .counts .taken → Steps (search.visited f t s i)
     unfolding search.visited
-    sound-visited s i h l = go (search.isBeaten s (nodeAt (s .work) i)) (isInGoal (t .polygon) (nodeAt (s .work) i)) refl
+    sound-visited s i h l = go (search.isBeaten s (nodeAt (s .work) i)) (isInGoal (t .trip .to) (nodeAt (s .work) i)) refl
       where
         o : Origin
         o = search.originAt (s .work) i
 
         steps : List Step
-        steps = stepsFrom f (t .polygon) (nodeAt (s .work) i)
+        steps = stepsFrom f (t .trip .to) (nodeAt (s .work) i)
 
-        go : (a b : Bool) → isInGoal (t .polygon) (nodeAt (s .work) i) ≡ b
+        go : (a b : Bool) → isInGoal (t .trip .to) (nodeAt (s .work) i) ≡ b
             → Steps (cond a (search.stepping s Goes) (cond b (search.stepping s (Ends (Arrived i))) (search.afterMaking f t (search.madeAll f t s o steps))))
         go true b e = record { sound = h; arrives = tt }
         go false true e = record { sound = h; arrives = (l, e) }
         go false false e = after-making (search.madeAll f t s o steps) (sound-made-all steps s o h (origin-of s i l) (own-steps s i) .sound)
 
     -- the place that is popped is one that is queued, and so taken
-    pub popped-queued : (s : State) → Sound vs ps t seed s → eqb (leastIn n (s .work)) none ≡ false → (leastIn n (s .work) < n) × (isQueued n (s .work) (leastIn n (s .work)) ≡ true)
+    pub popped-queued : (s : State) → Sound plan vs ps t seed s → eqb (leastIn n (s .work)) none ≡ false → (leastIn n (s .work) < n) × (isQueued n (s .work) (leastIn n (s .work)) ≡ true)
     popped-queued s h e = ⊎-elim (λ x. absurd (eqb-false _ _ e x)) (λ x. x) (least-held (fAt (s .work)) n (isQueued n (s .work)) (omega (arith, h .fit .room .few)))
 
-    pub popped-taken : (s : State) → Sound vs ps t seed s → eqb (leastIn n (s .work)) none ≡ false → leastIn n (s .work) < s .counts .taken
-    popped-taken s h e = let q = popped-queued s h e in h .queue .below (leastIn n (s .work)) (q .0) (q .1)
+    pub popped-taken : (s : State) → Sound plan vs ps t seed s → eqb (leastIn n (s .work)) none ≡ false → leastIn n (s .work) < s .counts .taken
+    popped-taken s h e = let q = popped-queued s h e in h .fit .queue .below (leastIn n (s .work)) (q .0) (q .1)
 
-    pub sound-popped : (s : State) → Sound vs ps t seed s → eqb (leastIn n (s .work)) none ≡ false → Sound vs ps t seed (search.popped f t s (leastIn n (s .work)))
+    pub sound-popped : (s : State) → Sound plan vs ps t seed s → eqb (leastIn n (s .work)) none ≡ false → Sound plan vs ps t seed (search.popped f t s (leastIn n (s .work)))
     unfolding search.popped counted
     sound-popped s h e =
         let q = popped-queued s h e in
-        sound-queued s (counted (s .counts)) (leastIn n (s .work)) false h refl refl (popped-taken s h e) (h .queue .no-nan (leastIn n (s .work)) (q .0) (q .1))
+        sound-queued s (counted (s .counts)) (leastIn n (s .work)) false h refl refl (popped-taken s h e) (h .no-nan (leastIn n (s .work)) (q .0) (q .1))
 
-    popped-below : (s : State) → Sound vs ps t seed s → eqb (leastIn n (s .work)) none ≡ false → leastIn n (s .work) < search.popped f t s (leastIn n (s .work)) .counts .taken
+    popped-below : (s : State) → Sound plan vs ps t seed s → eqb (leastIn n (s .work)) none ≡ false → leastIn n (s .work) < search.popped f t s (leastIn n (s .work)) .counts .taken
     unfolding search.popped counted
     popped-below = popped-taken
 
@@ -592,15 +568,15 @@ module _ (vs ps : List ℕ) (t : Task) (seed : Node) where
         go true = h
         go false = h
 
-    numbered-visited : (s : State) (i : ℕ) → Sound vs ps t seed s → i < s .counts .taken → Numbered s → Numbered (search.visited f t s i .state)
+    numbered-visited : (s : State) (i : ℕ) → Sound plan vs ps t seed s → i < s .counts .taken → Numbered s → Numbered (search.visited f t s i .state)
     unfolding search.visited
-    numbered-visited s i h l numbered = go (search.isBeaten s (nodeAt (s .work) i)) (isInGoal (t .polygon) (nodeAt (s .work) i))
+    numbered-visited s i h l numbered = go (search.isBeaten s (nodeAt (s .work) i)) (isInGoal (t .trip .to) (nodeAt (s .work) i))
       where
         o : Origin
         o = search.originAt (s .work) i
 
         steps : List Step
-        steps = stepsFrom f (t .polygon) (nodeAt (s .work) i)
+        steps = stepsFrom f (t .trip .to) (nodeAt (s .work) i)
 
         go : (a b : Bool) → Numbered ((cond a (search.stepping s Goes) (cond b (search.stepping s (Ends (Arrived i))) (search.afterMaking f t (search.madeAll f t s o steps)))) .state)
         go true b = numbered
@@ -611,7 +587,7 @@ module _ (vs ps : List ℕ) (t : Task) (seed : Node) where
     unfolding search.popped counted
     numbered-popped s i numbered j l = let m = numbered j l in record { found = m .found; low = m .low }
 
-    pub numbered-step : (s : State) → Sound vs ps t seed s → Numbered s → Numbered (search.step f t s .state)
+    pub numbered-step : (s : State) → Sound plan vs ps t seed s → Numbered s → Numbered (search.step f t s .state)
     unfolding search.step
     numbered-step s h numbered = go (eqb (leastIn n (s .work)) none) refl
       where
@@ -621,7 +597,7 @@ module _ (vs ps : List ℕ) (t : Task) (seed : Node) where
 
     -- ---- a step goes on
 
-    pub sound-step : (s : State) → Sound vs ps t seed s → Steps (search.step f t s)
+    pub sound-step : (s : State) → Sound plan vs ps t seed s → Steps (search.step f t s)
     unfolding search.step
     sound-step s h = go (eqb (leastIn n (s .work)) none) refl
       where
@@ -633,10 +609,10 @@ module _ (vs ps : List ℕ) (t : Task) (seed : Node) where
 
     -- a search that has ended
     pub record Finishes (e : search.Ending) : Type 0 where
-      pub sound : Sound vs ps t seed (e .state)
+      pub sound : Sound plan vs ps t seed (e .state)
       pub arrives : Arrives (e .state) (Ends (e .finish))
 
-    pub sound-run : (budget : ℕ) (s : State) → Sound vs ps t seed s → Finishes (search.run f t budget s)
+    pub sound-run : (budget : ℕ) (s : State) → Sound plan vs ps t seed s → Finishes (search.run f t budget s)
     unfolding search.run
     sound-run zero s h = go (eqb (leastIn n (s .work)) none)
       where
@@ -645,7 +621,7 @@ module _ (vs ps : List ℕ) (t : Task) (seed : Node) where
         go false = record { sound = h; arrives = tt }
     sound-run (suc budget) s h = go (search.step f t s .outcome) (sound-step s h .arrives) (sound-step s h .sound) (sound-run budget)
       where
-        go : (o : Outcome) → Arrives (search.step f t s .state) o → Sound vs ps t seed (search.step f t s .state) → ((u : State) → Sound vs ps t seed u → Finishes (search.run f t budget u))
+        go : (o : Outcome) → Arrives (search.step f t s .state) o → Sound plan vs ps t seed (search.step f t s .state) → ((u : State) → Sound plan vs ps t seed u → Finishes (search.run f t budget u))
             → Finishes (search.onwards f t (search.step f t s .state) o (search.run f t budget))
         go Goes a h next = next (search.step f t s .state) h
         go (Ends finish) a h next = record { sound = h; arrives = a }

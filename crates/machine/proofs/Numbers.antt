@@ -82,12 +82,13 @@ leg-self total p q h = go (isNan (q .x)) refl (isNan (q .y)) refl
     go false x true y = never (leg-nan-y p q (is-nan (q .y) y))
     go false x false y = same-itself q (is-no-nan (isNan (q .x)) x) (is-no-nan (isNan (q .y)) y)
 
-pub made-self : (f : Floor) (node : Node) (step : Step) → isNan (enter f node step .length) ≡ false → sameOf (enter f node step .root) (enter f node step .root) ≡ true
+pub made-self : (vertices : List Point) (node : Node) (step : Step) → isNan (enter vertices node step .length) ≡ false
+    → sameOf (enter vertices node step .root) (enter vertices node step .root) ≡ true
 unfolding enter
-made-self f node step = go (sameOf root (node .root)) refl
+made-self vertices node step = go (sameOf root (node .root)) refl
   where
     root : Point
-    root = rootAfter f node (step .kind)
+    root = rootAfter vertices node (step .kind)
 
     go : (b : Bool) → sameOf root (node .root) ≡ b → isNan (cond b (node .length) (add binary32 (node .length) (distanceOf (node .root) root))) ≡ false → sameOf root root ≡ true
     go true e h = same-self root (node .root) e
@@ -135,15 +136,15 @@ module _ (root : Point) (r : ℕ) where
   on-taken n s o kind node f h = on-kept n (placed s o kind node f) (s .counts .taken) node (on-placed s o kind node f h)
 
   module _ (f : Floor) (t : Task) where
-    on-made : (s : State) (o : Origin) (step : Step) → OnRecord s root r → OnRecord (made f t s o step .state) root r
+    on-made : (s : State) (o : Origin) (step : Step) → OnRecord s root r → OnRecord (made (f .vertices) t s o step .state) root r
     unfolding made
-    on-made s o step h = go (isNan (node .length) || isNan (heuristicOf (node .root) (t .goal) (node .interval))) (leb (t .places) (s .counts .taken))
+    on-made s o step h = go (isNan (node .length) || isNan (heuristicOf (node .root) (t .trip .goal) (node .interval))) (leb (t .places) (s .counts .taken))
       where
         node : Node
-        node = enter f (o .node) step
+        node = enter (f .vertices) (o .node) step
 
         value : Float
-        value = add binary32 (node .length) (heuristicOf (node .root) (t .goal) (node .interval))
+        value = add binary32 (node .length) (heuristicOf (node .root) (t .trip .goal) (node .interval))
 
         go : (a b : Bool) → OnRecord ((cond a (making s false) (cond b (making s true) (making (taken (t .places) s o (kindNumber (step .kind)) node value) false))) .state) root r
         go true b = h

@@ -91,6 +91,7 @@ recorded s node =
 
 -- ---- making nodes
 
+-- a place is put into the queue
 unfoldable pub queued : ℕ → State → ℕ → State
 queued n s i = stateOf (putQueued n (s .work) i true) (s .counts)
 
@@ -112,26 +113,27 @@ taken n s from kind node f = kept n (placed s from kind node f) (s .counts .take
 unfoldable pub originAt : Work → ℕ → Origin
 originAt w i = record { place = i; depth = depthAt w i; number = numberAt w i; node = nodeAt w i }
 
-module _ (f : Floor) (t : Task) where
+module _ (vertices : List Point) (t : Task) where
   -- "A made node takes distance plus the leg when the root changed, and the heuristic; NaN in either makes nothing." "11: a node needs a place and none is left"
   unfoldable pub made : State → Origin → Step → Making
   made s from step =
-      let node = enter f (from .node) step in
-      let heuristic = heuristicOf (node .root) (t .goal) (node .interval) in
+      let node = enter vertices (from .node) step in
+      let heuristic = heuristicOf (node .root) (t .trip .goal) (node .interval) in
       cond (isNan (node .length) || isNan heuristic) (making s false)
       (cond (leb (t .places) (s .counts .taken)) (making s true)
       (making (taken (t .places) s from (kindNumber (step .kind)) node (add binary32 (node .length) heuristic)) false))
 
+module _ (f : Floor) (t : Task) where
   -- the node of a step, if there is one
   abbrev pub madeIf : State → Origin → Permitted → Making
-  madeIf s from (Yes step) = made s from step
+  madeIf s from (Yes step) = made (f .vertices) t s from step
   madeIf s from No = making s false
 
   -- one after the other, until one finds no place
   unfoldable pub madeAll : State → Origin → List Step → Making
   madeAll s from [] = making s false
   madeAll s from (step ∷ steps) =
-      let m = made s from step in
+      let m = made (f .vertices) t s from step in
       cond (m .full) m (madeAll (m .state) from steps)
 
   -- ---- a step
@@ -144,10 +146,10 @@ module _ (f : Floor) (t : Task) where
   visited s i =
       let node = nodeAt (s .work) i in
       cond (isBeaten s node) (stepping s Goes)
-      (cond (isInGoal (t .polygon) node) (stepping s (Ends (Arrived i)))
-      (afterMaking (madeAll s (originAt (s .work) i) (stepsFrom f (t .polygon) node))))
+      (cond (isInGoal (t .trip .to) node) (stepping s (Ends (Arrived i)))
+      (afterMaking (madeAll s (originAt (s .work) i) (stepsFrom f (t .trip .to) node))))
 
-  -- "pop the node of least f = distance + heuristic, equal f by lower place; count one"
+  -- "pop the node of least f = distance + heuristic, equal f by lower place (ours, listed); count one": its place is taken out of the queue
   unfoldable pub popped : State → ℕ → State
   popped s i = stateOf (putQueued (t .places) (s .work) i false) (counted (s .counts))
 
@@ -179,8 +181,8 @@ module _ (f : Floor) (t : Task) where
   seedOrigin seed = record { place = 0; depth = 0; number = 0; node = seed }
 
   -- "Else place 0 is the seed with distance 0 and all its steps are made."
-  unfoldable pub searchedFrom : Point → ℕ → ℕ → Work → Ending
-  searchedFrom start p budget w =
-      let seed = seedNode start p in
-      let m = madeAll (begun seed w) (seedOrigin seed) (stepsFrom f (t .polygon) seed) in
+  unfoldable pub searchedFrom : ℕ → Work → Ending
+  searchedFrom budget w =
+      let seed = seedNode (t .trip .start) (t .trip .from) in
+      let m = madeAll (begun seed w) (seedOrigin seed) (stepsFrom f (t .trip .to) seed) in
       cond (m .full) (ending (m .state) Filled) (run budget (m .state))

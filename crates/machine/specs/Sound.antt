@@ -9,9 +9,7 @@ use lib.Dec.{T}
 use lib.ListN.{length}
 use lib.Ieee.{Float, nan, inf, fin}
 use Rattle.point.specs.declared.Point.{Point}
-use Rattle.stored.specs.Stored.{Floor, floorOf}
-use Rattle.faults.specs.Accepted.{Accepted}
-use Rattle.edges.specs.Where.{marksOf}
+use Rattle.stored.specs.Stored.{Floor, floorIn}
 use Rattle.route.specs.World.{_∈_}
 use Rattle.steps.specs.declared.Node.{Node}
 use Rattle.steps.specs.Steps.{stepsFrom, enter}
@@ -28,56 +26,47 @@ isPlus nan = true
 isPlus (inf s) = not s
 isPlus (fin s m e) = not s
 
--- ---- what is known of the floor
-
-pub record Ground (slots : ℕ) (vertices polygons marks : List ℕ) : Type 0 where
-  pub some-slots : 0 < slots
-  pub few-slots : slots ≤ 16
-  pub accepted : Accepted (floorOf slots vertices polygons)
-  pub some-vertices : 1 ≤ length vertices / 8
-  pub few-vertices : length vertices / 8 ≤ 1024
-  pub few-polygons : length polygons / (slots * 8) ≤ 512
-  pub marked : marks ≡ marksOf (floorOf slots vertices polygons)
-
 -- ---- places
 
 -- a permitted step led to this place
 pub record Entered (f : Floor) (t : Task) (w : Work) (i : ℕ) : Type 0 where
   pub lower : parentAt w i < i
-  pub permitted : stepAt w i ∈ stepsFrom f (t .polygon) (nodeAt w (parentAt w i))
-  pub entered : nodeAt w i ≡ enter f (nodeAt w (parentAt w i)) (stepAt w i)
+  pub permitted : stepAt w i ∈ stepsFrom f (t .trip .to) (nodeAt w (parentAt w i))
+  pub entered : nodeAt w i ≡ enter (f .vertices) (nodeAt w (parentAt w i)) (stepAt w i)
   pub deeper : depthAt w i ≡ depthAt w (parentAt w i) + 1
 
 -- what a place holds, whatever led to it
-pub record Held (slots : ℕ) (vertices polygons : List ℕ) (w : Work) (i : ℕ) : Type 0 where
-  pub stands : Stands slots vertices polygons (nodeAt w i)
+pub record Held (plan vertices polygons : List ℕ) (w : Work) (i : ℕ) : Type 0 where
+  pub stands : Stands plan vertices polygons (nodeAt w i)
   pub plus : T (isPlus (nodeAt w i .length))
   pub points-few : nodeAt w i .points ≤ depthAt w i
   pub depth-few : depthAt w i ≤ i
 
 -- ---- the queue
 
+-- its words are the tree of the places that they say are queued, and each of these is taken
 pub record Queue (n taken : ℕ) (w : Work) : Type 0 where
   pub tree : Tree (fAt w) n (isQueued n w) (w .queue)
   pub below : (i : ℕ) → i < n → isQueued n w i ≡ true → i < taken
-  pub no-nan : NoNan (fAt w) n (isQueued n w)
 
 -- ---- states
 
--- there is room for every place, and no more records than places are taken
+-- what making nodes asks of a state: there is room for every place, no more records than places are taken, and the queue is one
 pub record Fit (t : Task) (s : State) : Type 0 where
   pub room : Room (t .places) (s .work)
   pub records-in : s .counts .records ≤ s .counts .taken
+  pub queue : Queue (t .places) (s .counts .taken) (s .work)
 
-pub record Sound (vertices polygons : List ℕ) (t : Task) (seed : Node) (s : State) : Type 0 where
+pub record Sound (plan vertices polygons : List ℕ) (t : Task) (seed : Node) (s : State) : Type 0 where
   pub fit : Fit t s
   pub some : 1 ≤ s .counts .taken
   pub taken-in : s .counts .taken ≤ t .places
   pub seed-node : nodeAt (s .work) 0 ≡ seed
+  pub seed-parent : parentAt (s .work) 0 ≡ 0
   pub seed-depth : depthAt (s .work) 0 ≡ 0
-  pub held : (i : ℕ) → i < s .counts .taken → Held (t .slots) vertices polygons (s .work) i
-  pub entered : (i : ℕ) → 0 < i → i < s .counts .taken → Entered (floorOf (t .slots) vertices polygons) t (s .work) i
-  pub queue : Queue (t .places) (s .counts .taken) (s .work)
+  pub held : (i : ℕ) → i < s .counts .taken → Held plan vertices polygons (s .work) i
+  pub entered : (i : ℕ) → 0 < i → i < s .counts .taken → Entered (floorIn plan vertices polygons) t (s .work) i
+  pub no-nan : NoNan (fAt (s .work)) (t .places) (isQueued (t .places) (s .work))
 
 -- ---- distances on record
 
@@ -91,16 +80,20 @@ abbrev pub Numbered : State → Type 0
 Numbered s = (i : ℕ) → i < s .counts .taken → OnRecord s (nodeAt (s .work) i .root) (numberAt (s .work) i)
 
 -- from some seed
-pub record SoundFrom (vertices polygons : List ℕ) (t : Task) (s : State) : Type 0 where
+pub record SoundFrom (plan vertices polygons : List ℕ) (t : Task) (s : State) : Type 0 where
   pub seed : Node
-  pub sound : Sound vertices polygons t seed s
+  pub sound : Sound plan vertices polygons t seed s
   pub numbered : Numbered s
 
 -- ---- where steps are made from
 
-pub record Leaves (vertices polygons : List ℕ) (t : Task) (s : State) (o : Origin) : Type 0 where
-  pub stands : Stands (t .slots) vertices polygons (o .node)
+-- what a state and a place in it ask for each other
+pub record Leaving (s : State) (o : Origin) : Type 0 where
   pub on-record : OnRecord s (o .node .root) (o .number)
   pub place-few : o .place ≤ 4096
   pub depth-few : o .depth ≤ 4096
   pub points-few : o .node .points ≤ 4096
+
+pub record Leaves (plan vertices polygons : List ℕ) (s : State) (o : Origin) : Type 0 where
+  pub stands : Stands plan vertices polygons (o .node)
+  pub leaving : Leaving s o

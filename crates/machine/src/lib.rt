@@ -1,14 +1,11 @@
 // What a search is asked, what it counts, and how its steps and it itself end. All by value.
 
-use point::Point;
 use steps::Node;
+use steps::Trip;
 
-// What is asked of a floor of so many slots a polygon: the goal, the polygon that it is in, and how many places there are
-// for nodes.
+// What is asked, and how many places there are for nodes.
 pub struct Task {
-    pub slots: usize,
-    pub goal: Point,
-    pub polygon: usize,
+    pub trip: Trip,
     pub places: usize,
 }
 

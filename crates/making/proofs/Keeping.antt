@@ -3,21 +3,26 @@ use Prim.Native.Nat.{ℕ, _+_, _*_, _≤_, _<_}
 use mathlib.Core.Path.{_≡_, refl, sym, _∙_}
 use mathlib.Core.Bool.{true, false}
 use mathlib.Core.List.{List}
+use native.Mathlib.Omega.{arith}
 use borrow.Author.Tests.{eq-eqb, lt-ltb, le-ltb, lt-leb, le-leb}
 use lib.Ieee.{Float, nan, inf, fin, up, down, binary32, add, lt, ne, isNan}
+use Rattle.point.specs.declared.Point.{Point}
 use Rattle.helpers.specs.Helpers.{heuristicOf}
-use Rattle.stored.specs.Stored.{Floor}
 use Rattle.route.specs.declared.Step.{Step}
 use Rattle.route.specs.Step.{kindNumber}
 use Rattle.steps.specs.declared.Node.{Node}
 use Rattle.steps.specs.Steps.{enter}
-use Rattle.queue.specs.Words as tree
+use Rattle.queue.specs.Queue.{none, put, Tree}
+use Rattle.queue.specs.Words.{column, queuedIn, queueOf}
+use Rattle.places.proofs.Rows.{record-beside, distance-beside}
 use Rattle.places.proofs.Records.{record-for-put}
+use Rattle.places.proofs.Queued.{tree-beside, tree-behind}
 use Rattle.machine.specs.declared.Task.{Task}
 use Rattle.machine.specs.declared.Counts.{Counts}
 use Rattle.machine.specs.declared.Origin.{Origin}
 use Rattle.places.specs.Layout.{workOf, recordFor, recordDistance, recordPut, distancePut, putFloats, putWords}
 use Rattle.machine.specs.Search.{State, stateOf, making, tookPlace, tookRecord, beatenIn, recorded, queued, kept, placed, taken, made}
+use Rattle.machine.specs.Sound.{Fit}
 
 -- ---- NaN is what differs from itself
 
@@ -37,17 +42,33 @@ module _ (n : ℕ) (fs : List Float) (ws qs : List ℕ) (counts : Counts) (i : �
   keeps-none l less = rw (← found, lt-ltb _ _ l, less)
 
   pub keeps-record : r < counts .records → lt (recordDistance fs r) (node .length) ≡ false
-      → {fs' : List Float} → fs' ≡ distancePut fs r (node .length) → {qs' : List ℕ} → qs' ≡ tree.placed (tree.column fs' 11 7) n i true qs
+      → {fs' : List Float} → fs' ≡ distancePut fs r (node .length) → {qs' : List ℕ} → qs' ≡ queueOf (column fs' 11 7) n (put (queuedIn n qs) i true) qs
       → stateOf (workOf fs' ws qs') counts ≡ kept n (stateOf (workOf fs ws qs) counts) i node
   unfolding kept beatenIn recorded queued
   keeps-record l less f q = rw (q, f, ← found, lt-ltb _ _ l, less)
 
-  pub keeps-new : counts .records ≤ r → {fs' : List Float} → fs' ≡ recordPut fs r (node .root) (node .length) → {qs' : List ℕ} → qs' ≡ tree.placed (tree.column fs' 11 7) n i true qs
+  pub keeps-new : counts .records ≤ r
+      → {fs' : List Float} → fs' ≡ recordPut fs r (node .root) (node .length) → {qs' : List ℕ} → qs' ≡ queueOf (column fs' 11 7) n (put (queuedIn n qs) i true) qs
       → stateOf (workOf fs' ws qs') (tookRecord counts) ≡ kept n (stateOf (workOf fs ws qs) counts) i node
   unfolding kept beatenIn recorded queued
   keeps-new l f q = rw (q, f, ← found, le-ltb _ _ l)
 
+-- the queue is still one after a distance, or a record, was put,
+module _ (n : ℕ) (few : n ≤ 4096) (fs : List Float) (qs : List ℕ) (tree : Tree (column fs 11 7) n (queuedIn n qs) qs) (r : ℕ) where
+  pub tree-on-distance : (distance : Float) {fs' : List Float} → fs' ≡ distancePut fs r distance → Tree (column fs' 11 7) n (queuedIn n qs) qs
+  tree-on-distance distance e = rw e (tree-beside n (omega arith) fs qs tree (distancePut fs r distance) (distance-beside fs r distance))
+
+  pub tree-on-record : (root : Point) (distance : Float) {fs' : List Float} → fs' ≡ recordPut fs r root distance → Tree (column fs' 11 7) n (queuedIn n qs) qs
+  tree-on-record root distance e = rw e (tree-beside n (omega arith) fs qs tree (recordPut fs r root distance) (record-beside fs r root distance))
+
 -- ---- a place is taken
+
+-- and after a node was put at the next place
+pub tree-on-node : (t : Task) (s : State) → Fit t s → (node : Node) (f : Float) {fs' : List Float} → fs' ≡ putFloats (s .work .floats) (s .counts .taken) node f
+    → Tree (column fs' 11 7) (t .places) (queuedIn (t .places) (s .work .queue)) (s .work .queue)
+tree-on-node t s fit node f e =
+    let few : t .places ≤ none = omega (arith, fit .room .few) in
+    rw e (tree-behind (t .places) few (s .work .floats) (s .work .queue) (fit .queue .tree) (s .counts .taken) node f (fit .queue .below))
 
 -- the record of a root is found where it was, after a node was put
 pub still-found : (fs : List Float) (i : ℕ) (node : Node) (f : Float) (records : ℕ) {number : ℕ} → number ≡ recordFor fs records (node .root) → {fs' : List Float} → fs' ≡ putFloats fs i node f → number ≡ recordFor fs' records (node .root)
@@ -63,20 +84,21 @@ module _ (n : ℕ) (fs : List Float) (ws qs : List ℕ) (counts : Counts) (from 
 
 -- ---- a node is made, or none
 
-module _ (f : Floor) (t : Task) (s : State) (from : Origin) (step : Step) {node : Node} {h : Float} (entered : node ≡ enter f (from .node) step) (guessed : h ≡ heuristicOf (node .root) (t .goal) (node .interval)) where
-  pub makes-none : isNan (node .length) ≡ true → making s false ≡ made f t s from step
+module _ (vertices : List Point) (t : Task) (s : State) (from : Origin) (step : Step) {node : Node} {h : Float} (entered : node ≡ enter vertices (from .node) step)
+    (guessed : h ≡ heuristicOf (node .root) (t .trip .goal) (node .interval)) where
+  pub makes-none : isNan (node .length) ≡ true → making s false ≡ made vertices t s from step
   unfolding made
   makes-none e = rw (← entered, e)
 
-  pub makes-nothing : isNan (node .length) ≡ false → isNan h ≡ true → making s false ≡ made f t s from step
+  pub makes-nothing : isNan (node .length) ≡ false → isNan h ≡ true → making s false ≡ made vertices t s from step
   unfolding made
   makes-nothing e g = rw (← entered, e, ← guessed, g)
 
-  pub makes-full : isNan (node .length) ≡ false → isNan h ≡ false → t .places ≤ s .counts .taken → making s true ≡ made f t s from step
+  pub makes-full : isNan (node .length) ≡ false → isNan h ≡ false → t .places ≤ s .counts .taken → making s true ≡ made vertices t s from step
   unfolding made
   makes-full e g l = rw (← entered, e, ← guessed, g, le-leb _ _ l)
 
   pub makes-one : isNan (node .length) ≡ false → isNan h ≡ false → s .counts .taken < t .places → {kind : ℕ} → kind ≡ kindNumber (step .kind)
-      → {after : State} → after ≡ taken (t .places) s from kind node (add binary32 (node .length) h) → making after false ≡ made f t s from step
+      → {after : State} → after ≡ taken (t .places) s from kind node (add binary32 (node .length) h) → making after false ≡ made vertices t s from step
   unfolding made
   makes-one e g l k a = rw (a, k, ← entered, e, ← guessed, g, lt-leb _ _ l)

@@ -2,7 +2,7 @@
 use Prim.Native.Nat.{ℕ, suc, _+_, _≤_, _<_}
 use native.Mathlib.Numerals.{add-one}
 use native.Mathlib.Omega.{arith}
-use mathlib.Core.Path.{_≡_, refl, sym, ap, _∙_, subst}
+use mathlib.Core.Path.{_≡_, refl, sym, ap, ap₂, _∙_, subst}
 use mathlib.Core.Bool.{Bool, true, false, cond}
 use mathlib.Core.List.{List, [], _++_}
 use lib.Dec.{eqb}
@@ -14,7 +14,7 @@ use Rattle.walk.specs.declared.round.Round.{Round}
 use Rattle.walk.specs.Walk.{partsOf, partAt}
 use Rattle.walk.specs.Round.{successorsOn}
 use Rattle.walk.specs.Turns.{isOverOf, edgeNumberOf, nextOf}
-use Rattle.stored.specs.Stored.{Floor, Polygon, floorOf, polygonAt}
+use Rattle.stored.specs.Stored.{Floor, Polygon, floorIn, recordIn}
 use Rattle.route.specs.declared.Step.{Step}
 use Rattle.steps.specs.declared.Permitted.{Permitted}
 use Rattle.steps.specs.declared.Permitted.the-variants.{Yes, No}
@@ -39,8 +39,14 @@ pub record AsLong (new old : State) : Type 0 where
   pub queue-long : length (new .work .queue) ≡ length (old .work .queue)
 
 -- where steps are made from, in a later state
-pub leaves-on : {vs ps : List ℕ} {t : Task} {was at : State} {o : Origin} → Leaves vs ps t was o → OnRecord at (o .node .root) (o .number) → Leaves vs ps t at o
-leaves-on h r = record { stands = h .stands; on-record = r; place-few = h .place-few; depth-few = h .depth-few; points-few = h .points-few }
+pub leaves-on : {plan vs ps : List ℕ} {was at : State} {o : Origin} → Leaves plan vs ps was o → OnRecord at (o .node .root) (o .number)
+    → Leaves plan vs ps at o
+leaves-on h r =
+    let few = h .leaving in
+    record {
+      stands = h .stands;
+      leaving = record { on-record = r; place-few = few .place-few; depth-few = few .depth-few; points-few = few .points-few };
+    }
 
 -- all of them, made from the first state on, are the rest, made from this one on
 pub record Yet (f : Floor) (t : Task) (o : Origin) (was at : State) (all rest : List Step) : Type 0 where
@@ -84,6 +90,11 @@ module _ (f : Floor) (t : Task) (o : Origin) (was : State) (all : List Step) whe
 
 abbrev pub onEdge : Floor → Origin → ℕ → Walked → List Step
 onEdge f o edge walked = stepsOver f (o .node) (successorsOn edge (partsOf walked))
+
+-- by what the edge and what it yields are
+pub on-edge-as : (f : Floor) (t : Task) (s : State) (o : Origin) {edge is : ℕ} {walked yields : Walked} → edge ≡ is → walked ≡ yields
+    → madeAll f t s o (onEdge f o edge walked) ≡ madeAll f t s o (onEdge f o is yields)
+on-edge-as f t s o e w = ap₂ (λ (i : ℕ) (x : Walked). madeAll f t s o (onEdge f o i x)) e w
 
 pub one-of-three : (walked : Walked) → Yielded walked → (k : ℕ) → k < walked .count → k < 3
 one-of-three walked yielded k l = omega (arith, l, yielded .few)
@@ -138,59 +149,59 @@ module _ (f : Floor) (t : Task) (o : Origin) (edge : ℕ) (walked : Walked) wher
 
 -- ---- the edges of a polygon
 
-pub record Loops (vs ps : List ℕ) (t : Task) (o : Origin) (was at : State) (round : Round) : Type 0 where
-  pub goes : Goes (polygonAt (t .slots) ps (o .node .polygon)) (o .node) round
-  pub yet : Yet (floorOf (t .slots) vs ps) t o was at (stepsFrom (floorOf (t .slots) vs ps) (t .polygon) (o .node)) (stepsOver (floorOf (t .slots) vs ps) (o .node) (leftIn (floorOf (t .slots) vs ps) (o .node) round))
+pub record Loops (plan vs ps : List ℕ) (t : Task) (o : Origin) (was at : State) (round : Round) : Type 0 where
+  pub goes : Goes (recordIn plan ps (o .node .polygon)) (o .node) round
+  pub yet : Yet (floorIn plan vs ps) t o was at (stepsFrom (floorIn plan vs ps) (t .trip .to) (o .node)) (stepsOver (floorIn plan vs ps) (o .node) (leftIn (floorIn plan vs ps) (o .node) round))
 
-module _ (vs ps : List ℕ) (t : Task) (o : Origin) (h : Stands (t .slots) vs ps (o .node)) where
+module _ (plan vs ps : List ℕ) (t : Task) (o : Origin) (h : Stands plan vs ps (o .node)) where
   abbrev f : Floor
-  f = floorOf (t .slots) vs ps
+  f = floorIn plan vs ps
 
   abbrev its : Polygon
-  its = polygonAt (t .slots) ps (o .node .polygon)
+  its = recordIn plan ps (o .node .polygon)
 
   abbrev all : List Step
-  all = stepsFrom f (t .polygon) (o .node)
+  all = stepsFrom f (t .trip .to) (o .node)
 
   -- over the edges that were not walked yet
   abbrev yetTo : Round → List Step
   yetTo round = stepsOver f (o .node) (leftIn f (o .node) round)
 
-  all-first : eqb (o .node .polygon) (t .polygon) ≡ false → all ≡ yetTo (beginRound its (o .node))
+  all-first : eqb (o .node .polygon) (t .trip .to) ≡ false → all ≡ yetTo (beginRound its (o .node))
   unfolding stepsFrom
-  all-first e = rw (e, left-begin (t .slots) vs ps (o .node) h)
+  all-first e = rw (e, left-begin plan vs ps (o .node) h)
 
   none-over : (round : Round) → isOverOf round ≡ true → yetTo round ≡ []
   unfolding stepsOver
-  none-over round over = rw (left-over (t .slots) vs ps (o .node) h round over)
+  none-over round over = rw (left-over plan vs ps (o .node) h round over)
 
-  pub loops-begin : (was : State) → Fit t was → OnRecord was (o .node .root) (o .number) → eqb (o .node .polygon) (t .polygon) ≡ false → {round : Round} → round ≡ beginRound its (o .node) → Loops vs ps t o was was round
+  pub loops-begin : (was : State) → Fit t was → OnRecord was (o .node .root) (o .number) → eqb (o .node .polygon) (t .trip .to) ≡ false → {round : Round} → round ≡ beginRound its (o .node) → Loops plan vs ps t o was was round
   loops-begin was fit numbered e {round} b =
-      subst (Loops vs ps t o was was) (sym b)
+      subst (Loops plan vs ps t o was was) (sym b)
       (record {
-        goes = begin-goes (t .slots) vs ps (o .node) h;
+        goes = begin-goes plan vs ps (o .node) h;
         yet = yet-same f t o was all was (all-first e) (yet-all f t o was all fit numbered);
       })
 
-  module _ (was at : State) (round : Round) (l : Loops vs ps t o was at round) where
+  module _ (was at : State) (round : Round) (l : Loops plan vs ps t o was at round) where
     pub loops-over : isOverOf round ≡ true → making at false ≡ madeAll f t was o all
     loops-over over = yet-none f t o was all at (yet-same f t o was all at (none-over round over) (l .yet))
 
     module _ (on : isOverOf round ≡ false) (walked : Walked) (edge : ℕ) (is : walked ≡ walkedOn f (o .node) round) (number : edge ≡ edgeNumberOf round) where
       edge-first : yetTo round ≡ onEdge f o edge walked ++ yetTo (nextOf round (walked .kind))
-      edge-first = rw (is, number) (steps-left-next (t .slots) vs ps (o .node) h round (l .goes) on)
+      edge-first = rw (is, number) (steps-left-next plan vs ps (o .node) h round (l .goes) on)
 
       module _ (m : Making) (made : m ≡ madeAll f t at o (onEdge f o edge walked)) where
         pub loops-full : m .full ≡ true → m ≡ madeAll f t was o all
         loops-full e = yet-full f t o was all at (onEdge f o edge walked) (yetTo (nextOf round (walked .kind))) (yet-same f t o was all at edge-first (l .yet)) m made e
 
-        pub loops-next : m .full ≡ false → AsLong (m .state) at → {next : Round} → next ≡ nextOf round (walked .kind) → Loops vs ps t o was (m .state) next
+        pub loops-next : m .full ≡ false → AsLong (m .state) at → {next : Round} → next ≡ nextOf round (walked .kind) → Loops plan vs ps t o was (m .state) next
         loops-next e long {next} n =
-            subst (Loops vs ps t o was (m .state)) (sym n)
+            subst (Loops plan vs ps t o was (m .state)) (sym n)
             (record {
-              goes = next-goes (t .slots) vs ps (o .node) h round (l .goes) on (walked .kind);
+              goes = next-goes plan vs ps (o .node) h round (l .goes) on (walked .kind);
               yet = yet-rest f t o was all at (onEdge f o edge walked) (yetTo (nextOf round (walked .kind))) (yet-same f t o was all at edge-first (l .yet)) m made e long;
             })
 
     pub loops-less : isOverOf round ≡ false → (kind : SuccessorType) {next : Round} → next ≡ nextOf round kind → edgesLeft next < edgesLeft round
-    loops-less on kind {next} n = subst (λ (x : Round). edgesLeft x < edgesLeft round) (sym n) (fewer-left (t .slots) vs ps (o .node) h round (l .goes) on kind)
+    loops-less on kind {next} n = subst (λ (x : Round). edgesLeft x < edgesLeft round) (sym n) (fewer-left plan vs ps (o .node) h round (l .goes) on kind)

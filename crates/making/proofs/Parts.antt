@@ -1,36 +1,15 @@
--- The step over a part of an edge, and steps made one after the other: those of a list's front, then those of its rest. Assumes nothing.
-use Prim.Native.Nat.{ℕ}
+-- Steps made one after the other: those of a list's front, then those of its rest. Assumes nothing.
 use mathlib.Core.Path.{_≡_, refl, sym, ap, _∙_}
 use mathlib.Core.Bool.{Bool, true, false, cond}
 use mathlib.Core.List.{List, [], _∷_, _++_}
-use Rattle.walk.specs.declared.Part.{Part}
-use Rattle.stored.specs.Stored.{Floor, floorOf, polygonAt, unused}
+use Rattle.stored.specs.Stored.{Floor}
 use Rattle.route.specs.declared.Step.{Step}
 use Rattle.steps.specs.declared.Permitted.{Permitted}
 use Rattle.steps.specs.declared.Permitted.the-variants.{Yes, No}
-use Rattle.steps.specs.declared.Node.{Node}
-use Rattle.steps.specs.Steps.{stepOf, andThen}
-use Rattle.view.specs.declared.View.{View}
-use Rattle.view.specs.View.{viewOf, clipsBy, neighbourBy, overBy}
-use Rattle.view.proofs.Seen.{no-neighbour-no-step, step-to-neighbour}
-use Rattle.going.specs.Going.{Stands}
-use Rattle.going.proofs.Stepping.{step-on}
+use Rattle.steps.specs.Steps.{andThen}
 use Rattle.machine.specs.declared.Task.{Task}
 use Rattle.machine.specs.declared.Origin.{Origin}
 use Rattle.machine.specs.Search.{State, Making, making, made, madeIf, madeAll}
-
--- the step, asked for in two: the neighbour, then the step over to it
-module _ (s : ℕ) (vs ps : List ℕ) (node : Node) (h : Stands s vs ps node) (view : View) (v : view ≡ viewOf (floorOf s vs ps) node) (edge : ℕ) (part : Part)
-    (n : ℕ) (e : n ≡ neighbourBy (polygonAt s ps (view .polygon)) view edge (part .kind)) where
-  pub no-step : n ≡ unused → No ≡ stepOf (floorOf s vs ps) node (record { edge = edge; part = part })
-  no-step wall = step-on s vs ps node h view edge part No v (no-neighbour-no-step (polygonAt s ps (view .polygon)) view edge part e wall)
-
-  pub step-over : (n ≡ unused → ⊥) → (clips : Bool) → clips ≡ clipsBy view (part .kind) → (p : Permitted) → p ≡ overBy (polygonAt s ps (view .polygon)) edge n part clips (view .cone)
-      → p ≡ stepOf (floorOf s vs ps) node (record { edge = edge; part = part })
-  step-over other clips c p x =
-      step-on s vs ps node h view edge part p v
-      (step-to-neighbour (polygonAt s ps (view .polygon)) view edge part e other
-      (x ∙ ap (λ (b : Bool). overBy (polygonAt s ps (view .polygon)) edge n part b (view .cone)) c))
 
 -- what is made if a place was left, else what was made before
 abbrev pub unlessFull : Making → Making → Making
@@ -39,7 +18,7 @@ unlessFull m more = cond (m .full) m more
 module _ (f : Floor) (t : Task) (o : Origin) where
   -- ---- a step that may not be permitted
 
-  pub made-by-step : (s : State) {step : Step} {m : Making} → m ≡ made f t s o step → {p q : Permitted} → p ≡ Yes step → p ≡ q → m ≡ madeIf f t s o q
+  pub made-by-step : (s : State) {step : Step} {m : Making} → m ≡ made (f .vertices) t s o step → {p q : Permitted} → p ≡ Yes step → p ≡ q → m ≡ madeIf f t s o q
   made-by-step s e {p} {q} y x = e ∙ ap (madeIf f t s o) (sym y ∙ x)
 
   pub made-by-none : (s : State) {p q : Permitted} → p ≡ No → p ≡ q → making s false ≡ madeIf f t s o q
@@ -55,7 +34,7 @@ module _ (f : Floor) (t : Task) (o : Origin) where
   -- it is a list of one, or of none
   pub made-alone : (s : State) (p : Permitted) → madeIf f t s o p ≡ madeAll f t s o (andThen p [])
   unfolding madeAll
-  made-alone s (Yes step) = alone (made f t s o step)
+  made-alone s (Yes step) = alone (made (f .vertices) t s o step)
   made-alone s No = refl
 
   -- ---- several
@@ -66,7 +45,7 @@ module _ (f : Floor) (t : Task) (o : Origin) where
   made-both s (x ∷ xs) ys = go (m .full) refl (made-both (m .state) xs ys)
     where
       m : Making
-      m = made f t s o x
+      m = made (f .vertices) t s o x
 
       more : Making
       more = madeAll f t (m .state) o xs
@@ -77,13 +56,13 @@ module _ (f : Floor) (t : Task) (o : Origin) where
       go false b e = e
 
   -- what each step keeps, all of them keep
-  pub each-keeps : (P : State → Type 0) → ((s : State) (step : Step) → P s → P (made f t s o step .state)) → (steps : List Step) (s : State) → P s → P (madeAll f t s o steps .state)
+  pub each-keeps : (P : State → Type 0) → ((s : State) (step : Step) → P s → P (made (f .vertices) t s o step .state)) → (steps : List Step) (s : State) → P s → P (madeAll f t s o steps .state)
   unfolding madeAll
   each-keeps P keeps [] s h = h
-  each-keeps P keeps (step ∷ steps) s h = go (made f t s o step .full) (keeps s step h) (each-keeps P keeps steps (made f t s o step .state) (keeps s step h))
+  each-keeps P keeps (step ∷ steps) s h = go (made (f .vertices) t s o step .full) (keeps s step h) (each-keeps P keeps steps (made (f .vertices) t s o step .state) (keeps s step h))
     where
       m : Making
-      m = made f t s o step
+      m = made (f .vertices) t s o step
 
       go : (b : Bool) → P (m .state) → P (madeAll f t (m .state) o steps .state) → P ((cond b m (madeAll f t (m .state) o steps)) .state)
       go true one all = one

@@ -5,20 +5,24 @@ use places::F_AT;
 ghost use mathlib.Core.Path.{_≡_};
 ghost use mathlib.Core.Bool.{false};
 ghost use mathlib.Core.List.{List};
-ghost use Prim.Native.Nat.{ℕ, _+_, _*_, _≤_, _<_};
+ghost use Prim.Native.Nat.{ℕ, _+_, _*_, _/_, _≤_, _<_};
 ghost use lib.Dec.{eqb};
 ghost use lib.ListN.{length};
 ghost use lib.Ieee.{isNan};
 ghost use Rattle.walk.specs.Walk.{partsOf};
 ghost use Rattle.walk.specs.Round.{successorsOn};
-ghost use Rattle.stored.specs.Stored.{floorOf, polygonAt, cornerCount};
+ghost use Rattle.walk.specs.Turns.{isOverOf, edgeNumberOf, nextOf};
+ghost use Rattle.plan.specs.Plan.{slotsIn, isMarked};
+ghost use Rattle.stored.specs.Stored.{verticesOf, recordIn, floorIn};
+ghost use Rattle.edges.specs.Ground.{Ground};
 ghost use Rattle.steps.specs.Steps.{stepOf, stepsOver, stepsFrom};
 ghost use Rattle.view.specs.View.{viewOf};
-ghost use Rattle.going.specs.Going.{walkedAt};
+ghost use Rattle.going.specs.Going.{walkedOn, Goes};
+ghost use Rattle.queue.specs.Queue.{Tree};
+ghost use Rattle.queue.specs.Words.{column, queuedIn};
 ghost use Rattle.places.specs.Layout.{workOf, recordFor};
 ghost use Rattle.machine.specs.Search.{stateOf, making, kept, taken, made, madeIf, madeAll};
-ghost use Rattle.machine.specs.Sound.{Ground, Fit, OnRecord, Leaves};
-use cut::SuccessorType;
+ghost use Rattle.machine.specs.Sound.{Fit, OnRecord, Leaving, Leaves};
 use machine::Counts;
 use machine::Made;
 use machine::Origin;
@@ -30,13 +34,14 @@ use places::put_record;
 use places::put_words;
 use places::record_distance;
 use places::record_for;
+use plan::PLAN;
 use point::Point;
 use route::Step;
 use steps::Node;
 use steps::Permitted;
-use stored::UNUSED;
 use view::View;
-use walk::Part;
+use walk::Round;
+use walk::Successor;
 
 fn is_nan(x: f32) -> bool
     ensures { λ r. ⌜ r ≡ isNan x ⌝ }
@@ -69,6 +74,7 @@ fn keep(
 ) -> Counts
     requires { ⌜ (task .places * 11 ≤ length (now floats)) × (2 * task .places ≤ length (now tree)) × (task .places ≤ 4096) × (i < task .places) × (counts .records < task .places) ⌝ }
     requires { ⌜ r ≡ recordFor (now floats) (counts .records) (node .root) ⌝ }
+    requires { ⌜ Tree (column (now floats) 11 7) (task .places) (queuedIn (task .places) (now tree)) (now tree) ⌝ }
     ensures { λ r. ⌜ ((ws : List ℕ) → stateOf (workOf (now (floats .exit)) ws (now (tree .exit))) r ≡ kept (task .places) (stateOf (workOf (now (floats .entry)) ws (now (tree .entry))) counts) i node) ⌝ }
 {
     let records = counts.records;
@@ -130,7 +136,6 @@ fn take(
 // Makes the node that a step leads to. NaN in its distance or its heuristic makes nothing.
 fn make(
     vertices: &[u8],
-    polygons: &[u8],
     task: Task,
     counts: Counts,
     from: Origin,
@@ -140,13 +145,15 @@ fn make(
     tree: &mut [u32],
 ) -> Made
     requires { ⌜ Fit task (stateOf (workOf (now floats) (now words) (now tree)) counts) ⌝ }
-    requires { ⌜ Leaves (now vertices) (now polygons) task (stateOf (workOf (now floats) (now words) (now tree)) counts) from ⌝ }
-    ensures { λ r. ⌜ making (stateOf (workOf (now (floats .exit)) (now (words .exit)) (now (tree .exit))) (r .counts)) (r .full) ≡ made (floorOf (task .slots) (now (vertices .entry)) (now (polygons .entry))) task (stateOf (workOf (now (floats .entry)) (now (words .entry)) (now (tree .entry))) counts) from step ⌝ }
+    requires { ⌜ Leaving (stateOf (workOf (now floats) (now words) (now tree)) counts) from ⌝ }
+    requires { ⌜ (from .node .first < length (now vertices) / 8) × (from .node .second < length (now vertices) / 8) ⌝ }
+    ensures { λ r. let before = stateOf (workOf (now (floats .entry)) (now (words .entry)) (now (tree .entry))) counts in let after = stateOf (workOf (now (floats .exit)) (now (words .exit)) (now (tree .exit))) (r .counts) in ⌜ making after (r .full) ≡ made (verticesOf (now (vertices .entry))) task before from step ⌝ }
 {
     let old = from.node;
-    let node = old.enter(vertices, polygons, task.slots, step);
+    let node = old.enter(vertices, step);
     let distance = node.length;
-    let heuristic = helpers::heuristic(node.root, task.goal, node.interval);
+    let trip = task.trip;
+    let heuristic = helpers::heuristic(node.root, trip.goal, node.interval);
     if is_nan(distance) {
         return Made {
             counts,
@@ -172,57 +179,35 @@ fn make(
     }
 }
 
-// What was made of an edge: the counters, whether a node found no place, and the kind to go on with.
+// What was made of an edge: the counters, whether a node found no place, and the round behind it.
 struct Edged {
     counts: Counts,
     full: bool,
-    next: SuccessorType,
+    next: Round,
 }
 
-// Makes the node behind a part of an edge, if a step leads over it. The step is asked for in two, the neighbour first: at a
-// wall, and where the kind is not allowed, nothing is laid out for the clip.
+// Makes the node behind a part of an edge, if a step leads over it.
 fn make_part(
     vertices: &[u8],
     polygons: &[u8],
+    plan: &[u32; PLAN],
     task: Task,
     counts: Counts,
     from: Origin,
     view: View,
-    edge: usize,
-    part: Part,
+    successor: Successor,
     floats: &mut [f32],
     words: &mut [u32],
     tree: &mut [u32],
 ) -> Made
     requires { ⌜ Fit task (stateOf (workOf (now floats) (now words) (now tree)) counts) ⌝ }
-    requires { ⌜ Leaves (now vertices) (now polygons) task (stateOf (workOf (now floats) (now words) (now tree)) counts) from ⌝ }
-    requires { ⌜ (view ≡ viewOf (floorOf (task .slots) (now vertices) (now polygons)) (from .node)) × (edge < task .slots) ⌝ }
-    ensures { λ r. ⌜ making (stateOf (workOf (now (floats .exit)) (now (words .exit)) (now (tree .exit))) (r .counts)) (r .full) ≡ madeIf (floorOf (task .slots) (now (vertices .entry)) (now (polygons .entry))) task (stateOf (workOf (now (floats .entry)) (now (words .entry)) (now (tree .entry))) counts) from (stepOf (floorOf (task .slots) (now (vertices .entry)) (now (polygons .entry))) (from .node) (record { edge = edge; part = part })) ⌝ }
+    requires { ⌜ Leaves (now plan) (now vertices) (now polygons) (stateOf (workOf (now floats) (now words) (now tree)) counts) from ⌝ }
+    requires { ⌜ Ground (now plan) (now vertices) (now polygons) × (successor .edge < slotsIn (now plan)) ⌝ }
+    requires { ⌜ view ≡ viewOf (verticesOf (now vertices)) (isMarked (now plan)) (from .node) ⌝ }
+    ensures { λ r. let f = floorIn (now (plan .entry)) (now (vertices .entry)) (now (polygons .entry)) in let before = stateOf (workOf (now (floats .entry)) (now (words .entry)) (now (tree .entry))) counts in let after = stateOf (workOf (now (floats .exit)) (now (words .exit)) (now (tree .exit))) (r .counts) in ⌜ making after (r .full) ≡ madeIf f task before from (stepOf f (from .node) successor) ⌝ }
 {
-    let kind = part.kind;
-    let slots = task.slots;
-    let neighbour = view.neighbour(polygons, slots, edge, kind);
-    if neighbour == UNUSED {
-        return Made {
-            counts,
-            full: false,
-        };
-    }
-    let polygon = view.polygon;
-    let clips = view.clips(kind);
-    let cone = view.cone;
-    match view::over(polygons, slots, polygon, edge, neighbour, part, clips, cone) {
-        Permitted::Yes(step) => make(
-            vertices,
-            polygons,
-            task,
-            counts,
-            from,
-            step,
-            floats,
-            words,
-            tree,
-        ),
+    match view.step(polygons, plan, successor) {
+        Permitted::Yes(step) => make(vertices, task, counts, from, step, floats, words, tree),
         Permitted::No => Made {
             counts,
             full: false,
@@ -230,43 +215,47 @@ fn make_part(
     }
 }
 
-// Walks an edge, where kind is what the edge before it left, and makes the nodes behind its parts, until one finds no place. What the walk
-// yields stays in here, since what a call takes is copied.
+// Walks the round's edge and makes the nodes behind its parts, until one finds no place. What the walk yields stays in here, since
+// what a call takes is copied.
 fn make_edge(
     vertices: &[u8],
     polygons: &[u8],
+    plan: &[u32; PLAN],
     task: Task,
     counts: Counts,
     from: Origin,
     view: View,
-    edge: usize,
-    kind: SuccessorType,
+    round: Round,
     floats: &mut [f32],
     words: &mut [u32],
     tree: &mut [u32],
 ) -> Edged
     requires { ⌜ Fit task (stateOf (workOf (now floats) (now words) (now tree)) counts) ⌝ }
-    requires { ⌜ Leaves (now vertices) (now polygons) task (stateOf (workOf (now floats) (now words) (now tree)) counts) from ⌝ }
-    requires { ⌜ (view ≡ viewOf (floorOf (task .slots) (now vertices) (now polygons)) (from .node)) × (edge < task .slots) × (edge < cornerCount (polygonAt (task .slots) (now polygons) (from .node .polygon))) ⌝ }
-    ensures { λ r. ⌜ making (stateOf (workOf (now (floats .exit)) (now (words .exit)) (now (tree .exit))) (r .counts)) (r .full) ≡ madeAll (floorOf (task .slots) (now (vertices .entry)) (now (polygons .entry))) task (stateOf (workOf (now (floats .entry)) (now (words .entry)) (now (tree .entry))) counts) from (stepsOver (floorOf (task .slots) (now (vertices .entry)) (now (polygons .entry))) (from .node) (successorsOn edge (partsOf (walkedAt (floorOf (task .slots) (now (vertices .entry)) (now (polygons .entry))) (from .node) edge kind)))) ⌝ }
-    ensures { λ r. ⌜ r .next ≡ walkedAt (floorOf (task .slots) (now (vertices .entry)) (now (polygons .entry))) (from .node) edge kind .kind ⌝ }
+    requires { ⌜ Leaves (now plan) (now vertices) (now polygons) (stateOf (workOf (now floats) (now words) (now tree)) counts) from ⌝ }
+    requires { ⌜ Ground (now plan) (now vertices) (now polygons) × (view ≡ viewOf (verticesOf (now vertices)) (isMarked (now plan)) (from .node)) ⌝ }
+    requires { ⌜ Goes (recordIn (now plan) (now polygons) (from .node .polygon)) (from .node) round × (isOverOf round ≡ false) ⌝ }
+    ensures { λ r. let f = floorIn (now (plan .entry)) (now (vertices .entry)) (now (polygons .entry)) in let before = stateOf (workOf (now (floats .entry)) (now (words .entry)) (now (tree .entry))) counts in let after = stateOf (workOf (now (floats .exit)) (now (words .exit)) (now (tree .exit))) (r .counts) in ⌜ making after (r .full) ≡ madeAll f task before from (stepsOver f (from .node) (successorsOn (edgeNumberOf round) (partsOf (walkedOn f (from .node) round)))) ⌝ }
+    ensures { λ r. let f = floorIn (now (plan .entry)) (now (vertices .entry)) (now (polygons .entry)) in ⌜ r .next ≡ nextOf round (walkedOn f (from .node) round .kind) ⌝ }
 {
     let node = from.node;
-    let walked = going::walk_at(vertices, polygons, task.slots, node, edge, kind);
-    let next = walked.kind;
+    let edge = round.edge();
+    let walked = going::walk(vertices, polygons, plan, node, round);
+    let kind = walked.kind;
+    let next = round.next(kind);
     let mut counts = counts;
     let mut k = 0;
     while k < walked.count {
         let part = walked.parts[k];
+        let successor = Successor { edge, part };
         let made = make_part(
             vertices,
             polygons,
+            plan,
             task,
             counts,
             from,
             view,
-            edge,
-            part,
+            successor,
             floats,
             words,
             tree,
@@ -289,7 +278,7 @@ fn make_edge(
 pub fn make_steps(
     vertices: &[u8],
     polygons: &[u8],
-    marks: &[u32; 32],
+    plan: &[u32; PLAN],
     task: Task,
     counts: Counts,
     from: Origin,
@@ -298,27 +287,24 @@ pub fn make_steps(
     tree: &mut [u32],
 ) -> Made
     requires { ⌜ Fit task (stateOf (workOf (now floats) (now words) (now tree)) counts) ⌝ }
-    requires { ⌜ Leaves (now vertices) (now polygons) task (stateOf (workOf (now floats) (now words) (now tree)) counts) from ⌝ }
-    requires { ⌜ Ground (task .slots) (now vertices) (now polygons) (now marks) × (eqb (from .node .polygon) (task .polygon) ≡ false) ⌝ }
-    ensures { λ r. ⌜ making (stateOf (workOf (now (floats .exit)) (now (words .exit)) (now (tree .exit))) (r .counts)) (r .full) ≡ madeAll (floorOf (task .slots) (now (vertices .entry)) (now (polygons .entry))) task (stateOf (workOf (now (floats .entry)) (now (words .entry)) (now (tree .entry))) counts) from (stepsFrom (floorOf (task .slots) (now (vertices .entry)) (now (polygons .entry))) (task .polygon) (from .node)) ⌝ }
+    requires { ⌜ Leaves (now plan) (now vertices) (now polygons) (stateOf (workOf (now floats) (now words) (now tree)) counts) from ⌝ }
+    requires { ⌜ Ground (now plan) (now vertices) (now polygons) × (eqb (from .node .polygon) (task .trip .to) ≡ false) ⌝ }
+    ensures { λ r. let f = floorIn (now (plan .entry)) (now (vertices .entry)) (now (polygons .entry)) in let before = stateOf (workOf (now (floats .entry)) (now (words .entry)) (now (tree .entry))) counts in let after = stateOf (workOf (now (floats .exit)) (now (words .exit)) (now (tree .exit))) (r .counts) in ⌜ making after (r .full) ≡ madeAll f task before from (stepsFrom f (task .trip .to) (from .node)) ⌝ }
 {
     let node = from.node;
-    let slots = task.slots;
-    let view = View::new(vertices, polygons, slots, marks, node);
-    let mut round = going::begin(polygons, slots, node);
+    let view = View::new(vertices, plan, node);
+    let mut round = going::begin(polygons, plan, node);
     let mut counts = counts;
     while !round.is_over() {
-        let edge = round.edge();
-        let kind = round.kind;
         let edged = make_edge(
             vertices,
             polygons,
+            plan,
             task,
             counts,
             from,
             view,
-            edge,
-            kind,
+            round,
             floats,
             words,
             tree,
@@ -328,8 +314,7 @@ pub fn make_steps(
         if full {
             return Made { counts, full };
         }
-        let next = edged.next;
-        round = round.next(next);
+        round = edged.next;
     }
     Made {
         counts,

@@ -18,7 +18,7 @@ use Rattle.route.specs.declared.Step.{Step}
 use Rattle.route.specs.Step.{kindNumber}
 use Rattle.steps.specs.declared.Node.{Node}
 use Rattle.queue.specs.Words.{column}
-use Rattle.places.specs.Layout.{Work, Room, placesIn, puts, floatAt, wordAt, intervalIn, nodeIn, kindOf, stepIn, parentIn, depthIn, numberIn, putFloats, putWords, recordPut, distancePut}
+use Rattle.places.specs.Layout.{Work, Room, placesIn, puts, floatAt, wordAt, intervalIn, leftIn, nodeIn, kindOf, stepIn, parentIn, depthIn, numberIn, putFloats, putWords, recordPut, distancePut}
 
 -- ---- cells
 
@@ -76,24 +76,6 @@ SameFloats new old i = (k : ℕ) → k < 8 → floatAt new i k ≡ floatAt old i
 abbrev pub SameWords : List ℕ → List ℕ → ℕ → Type 0
 SameWords new old i = (k : ℕ) → k < 8 → wordAt new i k ≡ wordAt old i k
 
-module _ (new old : List Float) (i : ℕ) (same : SameFloats new old i) where
-  interval-same : intervalIn new i ≡ intervalIn old i
-  unfolding intervalIn
-  interval-same = rw (same 0 (omega arith), same 1 (omega arith), same 2 (omega arith), same 3 (omega arith))
-
-  pub f-same : column new 11 7 i ≡ column old 11 7 i
-  unfolding column floatAt
-  f-same = same 7 (omega arith)
-
-  module _ (words was : List ℕ) (kept : SameWords words was i) where
-    pub node-same : nodeIn new words i ≡ nodeIn old was i
-    unfolding nodeIn
-    node-same = rw (interval-same, same 4 (omega arith), same 5 (omega arith), same 6 (omega arith), kept 0 (omega arith), kept 1 (omega arith), kept 2 (omega arith), kept 3 (omega arith), kept 5 (omega arith))
-
-    pub step-same : stepIn new words i ≡ stepIn old was i
-    unfolding stepIn
-    step-same = rw (interval-same, kept 0 (omega arith), kept 1 (omega arith), kept 2 (omega arith), kept 3 (omega arith))
-
 module _ (words was : List ℕ) (i : ℕ) (kept : SameWords words was i) where
   pub parent-same : parentIn words i ≡ parentIn was i
   unfolding parentIn
@@ -106,6 +88,38 @@ module _ (words was : List ℕ) (i : ℕ) (kept : SameWords words was i) where
   pub number-same : numberIn words i ≡ numberIn was i
   unfolding numberIn
   number-same = kept 7 (omega arith)
+
+module _ (new old : List Float) (i : ℕ) (same : SameFloats new old i) where
+  interval-same : intervalIn new i ≡ intervalIn old i
+  unfolding intervalIn
+  interval-same = rw (same 0 (omega arith), same 1 (omega arith), same 2 (omega arith), same 3 (omega arith))
+
+  pub f-same : column new 11 7 i ≡ column old 11 7 i
+  unfolding column floatAt
+  f-same = same 7 (omega arith)
+
+  module _ (words was : List ℕ) (kept : SameWords words was i) where
+    -- its parent's polygon too
+    pub node-same : wordAt words (parentIn was i) 1 ≡ wordAt was (parentIn was i) 1 → nodeIn new words i ≡ nodeIn old was i
+    unfolding nodeIn leftIn
+    node-same left =
+        rw (
+          interval-same,
+          same 4 (omega arith),
+          same 5 (omega arith),
+          same 6 (omega arith),
+          kept 0 (omega arith),
+          kept 1 (omega arith),
+          kept 2 (omega arith),
+          kept 3 (omega arith),
+          kept 5 (omega arith),
+          parent-same words was i kept,
+          left,
+        )
+
+    pub step-same : stepIn new words i ≡ stepIn old was i
+    unfolding stepIn
+    step-same = rw (interval-same, kept 0 (omega arith), kept 1 (omega arith), kept 2 (omega arith), kept 3 (omega arith))
 
 -- ---- a node put at a place
 
@@ -184,11 +198,37 @@ module _ (words : List ℕ) (i kind : ℕ) (node : Node) (parent depth number : 
     number-put = word-cell 7 (omega arith)
 
     module _ (floats : List Float) (f : Float) (space : (i + 1) * 11 ≤ length floats) where
-      pub node-put : eqb kind 1 ≡ node .seed → nodeIn (putFloats floats i node f) after i ≡ node
-      unfolding nodeIn
-      node-put e =
-          rw (interval-put floats i node f space, root-put floats i node f space, length-put floats i node f space, word-cell 0 (omega arith), word-cell 1 (omega arith), word-cell 2 (omega arith), word-cell 3 (omega arith), word-cell 5 (omega arith))
-          (ap (λ (b : Bool). record { seed = b; polygon = node .polygon; first = node .first; second = node .second; interval = node .interval; root = node .root; length = node .length; points = node .points }) e)
+      -- where its parent's polygon is the one that it left
+      pub node-put : eqb kind 1 ≡ node .seed → wordAt after parent 1 ≡ node .left → nodeIn (putFloats floats i node f) after i ≡ node
+      unfolding nodeIn leftIn
+      node-put e left =
+          rw (
+            interval-put floats i node f space,
+            root-put floats i node f space,
+            length-put floats i node f space,
+            parent-put,
+            left,
+            word-cell 0 (omega arith),
+            word-cell 1 (omega arith),
+            word-cell 2 (omega arith),
+            word-cell 3 (omega arith),
+            word-cell 5 (omega arith),
+          )
+          (ap (λ (b : Bool). record {
+            seed = b;
+            left = node .left;
+            polygon = node .polygon;
+            first = node .first;
+            second = node .second;
+            interval = node .interval;
+            root = node .root;
+            length = node .length;
+            points = node .points;
+          }) e)
+
+      -- the polygon stands where another's parent finds it
+      pub polygon-put : wordAt after i 1 ≡ node .polygon
+      polygon-put = word-cell 1 (omega arith)
 
       pub step-put : (step : Step) → kind ≡ kindNumber (step .kind) → node .polygon ≡ step .polygon → node .first ≡ step .first → node .second ≡ step .second → node .interval ≡ step .interval
           → stepIn (putFloats floats i node f) after i ≡ step

@@ -14,8 +14,8 @@ use Rattle.cut.specs.declared.SuccessorType.{SuccessorType}
 use Rattle.cut.specs.declared.SuccessorType.the-variants.{LeftNonObservable, Observable, RightNonObservable}
 use Rattle.route.specs.declared.Step.{Step}
 use Rattle.steps.specs.declared.Node.{Node}
-use Rattle.queue.specs.Queue.{leastOf}
-use Rattle.queue.specs.Words.{column, queuedIn, cleared, placed}
+use Rattle.queue.specs.Queue.{put, leastOf}
+use Rattle.queue.specs.Words.{column, queuedIn, cleared, queueOf}
 
 -- what is lent
 pub record Work : Type 0 where
@@ -55,10 +55,22 @@ wordAt words i k = getD words (i * 8 + k) 0
 unfoldable pub intervalIn : List Float → ℕ → Segment
 intervalIn floats i = (pointOf (floatAt floats i 0) (floatAt floats i 1), pointOf (floatAt floats i 2) (floatAt floats i 3))
 
+-- the place from which it was entered
+unfoldable pub parentIn : List ℕ → ℕ → ℕ
+parentIn words i = wordAt words i 4
+
+abbrev pub parentAt : Work → ℕ → ℕ
+parentAt w i = parentIn (w .words) i
+
+-- the polygon of that place, which was left for this one
+unfoldable pub leftIn : List ℕ → ℕ → ℕ
+leftIn words i = wordAt words (parentIn words i) 1
+
 -- the seed's kind is 1, as in its record
 unfoldable pub nodeIn : List Float → List ℕ → ℕ → Node
 nodeIn floats words i = record {
   seed = eqb (wordAt words i 0) 1;
+  left = leftIn words i;
   polygon = wordAt words i 1;
   first = wordAt words i 2;
   second = wordAt words i 3;
@@ -87,13 +99,6 @@ stepIn floats words i = record {
 
 abbrev pub stepAt : Work → ℕ → Step
 stepAt w i = stepIn (w .floats) (w .words) i
-
--- the place from which it was entered
-unfoldable pub parentIn : List ℕ → ℕ → ℕ
-parentIn words i = wordAt words i 4
-
-abbrev pub parentAt : Work → ℕ → ℕ
-parentAt w i = parentIn (w .words) i
 
 -- how many steps led to it
 unfoldable pub depthIn : List ℕ → ℕ → ℕ
@@ -154,6 +159,7 @@ putDistance w r distance = workOf (distancePut (w .floats) r distance) (w .words
 
 -- ---- the queue
 
+-- whether a place is queued
 abbrev pub isQueued : ℕ → Work → ℕ → Bool
 isQueued n w = queuedIn n (w .queue)
 
@@ -161,10 +167,10 @@ isQueued n w = queuedIn n (w .queue)
 abbrev pub leastIn : ℕ → Work → ℕ
 leastIn n w = leastOf (fAt w) n (isQueued n w)
 
--- place i queued, or not
+-- place i queued, or not, and the others as they were: the queue's words are those of the tree of these places, and the words behind it stay
 abbrev pub putQueued : ℕ → Work → ℕ → Bool → Work
-putQueued n w i b = workOf (w .floats) (w .words) (placed (fAt w) n i b (w .queue))
+putQueued n w i b = workOf (w .floats) (w .words) (queueOf (fAt w) n (put (isQueued n w) i b) (w .queue))
 
--- no place queued
+-- no place queued: every word of the tree is `none`
 abbrev pub emptied : ℕ → Work → Work
 emptied n w = workOf (w .floats) (w .words) (cleared (2 * n) (w .queue))

@@ -4,7 +4,7 @@
 ghost use mathlib.Core.Path.{_≡_};
 ghost use Prim.Native.Nat.{_+_, _*_, _≤_, _<_, min};
 ghost use lib.ListN.{length};
-ghost use Rattle.places.specs.Layout.{workOf, placesIn, intervalIn, nodeIn, kindOf, stepIn, parentIn, depthIn, numberIn, putFloats, putWords, recordRoot, recordDistance, recordFor, recordPut, distancePut};
+ghost use Rattle.places.specs.Layout.{workOf, placesIn, intervalIn, leftIn, nodeIn, kindOf, stepIn, parentIn, depthIn, numberIn, putFloats, putWords, recordRoot, recordDistance, recordFor, recordPut, distancePut};
 use cut::SuccessorType;
 use point::Point;
 use point::Segment;
@@ -98,18 +98,37 @@ fn interval_at(floats: &[f32], i: usize) -> Segment
     Segment(right, left)
 }
 
-// The node at place i.
+// The place from which the node at place i was entered.
+pub fn parent_at(words: &[u32], i: usize) -> u32
+    requires { ⌜ (i + 1) * 8 ≤ length (now words) ⌝ }
+    ensures { λ r. ⌜ r ≡ parentIn (now (words .entry)) i ⌝ }
+{
+    words[i * WORDS + 4]
+}
+
+// The polygon of that place, which was left for the node's own.
+fn left_at(words: &[u32], i: usize) -> u32
+    requires { ⌜ ((i + 1) * 8 ≤ length (now words)) × ((parentIn (now words) i + 1) * 8 ≤ length (now words)) ⌝ }
+    ensures { λ r. ⌜ r ≡ leftIn (now (words .entry)) i ⌝ }
+{
+    let parent = parent_at(words, i) as usize;
+    words[parent * WORDS + 1]
+}
+
+// The node at place i, of which another place is the parent.
 pub fn node_at(floats: &[f32], words: &[u32], i: usize) -> Node
-    requires { ⌜ ((i + 1) * 11 ≤ length (now floats)) × ((i + 1) * 8 ≤ length (now words)) ⌝ }
+    requires { ⌜ ((i + 1) * 11 ≤ length (now floats)) × ((i + 1) * 8 ≤ length (now words)) × ((parentIn (now words) i + 1) * 8 ≤ length (now words)) ⌝ }
     ensures { λ r. ⌜ r ≡ nodeIn (now (floats .entry)) (now (words .entry)) i ⌝ }
 {
     let interval = interval_at(floats, i);
+    let left = left_at(words, i);
     let row = i * FLOATS;
     let root = Point::new(floats[row + 4], floats[row + 5]);
     let length = floats[row + 6];
     let row = i * WORDS;
     Node {
         seed: words[row + 0] == SEED,
+        left,
         polygon: words[row + 1],
         first: words[row + 2],
         second: words[row + 3],
@@ -148,14 +167,6 @@ pub fn step_at(floats: &[f32], words: &[u32], i: usize) -> Step
         second: words[row + 3],
         interval,
     }
-}
-
-// The place from which the node at place i was entered.
-pub fn parent_at(words: &[u32], i: usize) -> u32
-    requires { ⌜ (i + 1) * 8 ≤ length (now words) ⌝ }
-    ensures { λ r. ⌜ r ≡ parentIn (now (words .entry)) i ⌝ }
-{
-    words[i * WORDS + 4]
 }
 
 // How many steps led to the node at place i.

@@ -9,7 +9,9 @@ use lib.Dec.{eqb}
 use lib.ListN.{length}
 use Rattle.point.specs.declared.Point.{Point}
 use Rattle.point.specs.Point.{sameOf}
-use Rattle.stored.specs.Stored.{Floor, floorOf}
+use Rattle.plan.specs.Plan.{polygonCountIn}
+use Rattle.stored.specs.Stored.{Floor, floorIn}
+use Rattle.edges.specs.Ground.{Ground}
 use Rattle.steps.specs.declared.Node.{Node}
 use Rattle.steps.specs.Steps.{stepsFrom, seedNode}
 use Rattle.going.proofs.Stands.{seed-stands}
@@ -22,24 +24,24 @@ use Rattle.machine.specs.declared.Outcome.{Outcome}
 use Rattle.machine.specs.declared.Outcome.the-variants.{Goes, Ends}
 use Rattle.places.specs.Layout.{Work, Room, leastIn}
 use Rattle.machine.specs.Search.{State, stateOf, Making, Stepping, Ending, ending, madeAll, step, onwards, run, planted, begun, seedOrigin, searchedFrom}
-use Rattle.machine.specs.Sound.{Ground, Fit, Sound, OnRecord, Numbered, SoundFrom, Leaves}
+use Rattle.machine.specs.Sound.{Fit, Sound, OnRecord, Numbered, SoundFrom, Leaves}
 use Rattle.machine.proofs.Kept.{sound-step, numbered-step}
 use Rattle.machine.proofs.Begun.{sound-begun, on-first, sound-seeded, numbered-seeded}
 use Rattle.making.proofs.Looping.{AsLong}
 use Rattle.machine.proofs.Counting.{pops-made-all, pops-step}
 
-pub record Runs (vs ps : List ℕ) (t : Task) (budget : ℕ) (was at : State) (left : ℕ) : Type 0 where
-  pub sound : SoundFrom vs ps t at
+pub record Runs (plan vs ps : List ℕ) (t : Task) (budget : ℕ) (was at : State) (left : ℕ) : Type 0 where
+  pub sound : SoundFrom plan vs ps t at
   pub long : AsLong at was
   pub count : at .counts .pops + left ≤ was .counts .pops + budget
-  pub rest : run (floorOf (t .slots) vs ps) t budget was ≡ run (floorOf (t .slots) vs ps) t left at
+  pub rest : run (floorIn plan vs ps) t budget was ≡ run (floorIn plan vs ps) t left at
 
-pub runs-begin : (vs ps : List ℕ) (t : Task) (budget : ℕ) (was : State) → SoundFrom vs ps t was → Runs vs ps t budget was was budget
-runs-begin vs ps t budget was h = record { sound = h; long = record { floats-long = refl; words-long = refl; queue-long = refl }; count = omega arith; rest = refl }
+pub runs-begin : (plan vs ps : List ℕ) (t : Task) (budget : ℕ) (was : State) → SoundFrom plan vs ps t was → Runs plan vs ps t budget was was budget
+runs-begin plan vs ps t budget was h = record { sound = h; long = record { floats-long = refl; words-long = refl; queue-long = refl }; count = omega arith; rest = refl }
 
-module _ (vs ps marks : List ℕ) (t : Task) (budget : ℕ) (was at : State) (left : ℕ) (g : Ground (t .slots) vs ps marks) (r : Runs vs ps t budget was at left) where
+module _ (plan vs ps : List ℕ) (t : Task) (budget : ℕ) (was at : State) (left : ℕ) (g : Ground plan vs ps) (r : Runs plan vs ps t budget was at left) where
   abbrev f : Floor
-  f = floorOf (t .slots) vs ps
+  f = floorIn plan vs ps
 
   module _ (some : 0 < left) (st : Stepping) (stepped : st ≡ step f t at) where
     turned : run f t budget was ≡ onwards f t (st .state) (st .outcome) (run f t (left - 1))
@@ -51,12 +53,12 @@ module _ (vs ps marks : List ℕ) (t : Task) (budget : ℕ) (was at : State) (le
     pub runs-ends : {finish : Finish} → st .outcome ≡ Ends finish → ending (st .state) finish ≡ run f t budget was
     runs-ends e = sym (turned ∙ ap (λ (o : Outcome). onwards f t (st .state) o (run f t (left - 1))) e)
 
-    pub runs-next : st .outcome ≡ Goes → AsLong (st .state) at → Runs vs ps t budget was (st .state) (left - 1)
+    pub runs-next : st .outcome ≡ Goes → AsLong (st .state) at → Runs plan vs ps t budget was (st .state) (left - 1)
     runs-next e long = record {
       sound = record {
         seed = r .sound .seed;
-        sound = subst (λ (x : Stepping). Sound vs ps t (r .sound .seed) (x .state)) (sym stepped) (sound-step vs ps t (r .sound .seed) (g .some-slots) (g .few-slots) (g .accepted) at (r .sound .sound) .sound);
-        numbered = subst (λ (x : Stepping). Numbered (x .state)) (sym stepped) (numbered-step vs ps t (r .sound .seed) (g .some-slots) (g .few-slots) (g .accepted) at (r .sound .sound) (r .sound .numbered));
+        sound = subst (λ (x : Stepping). Sound plan vs ps t (r .sound .seed) (x .state)) (sym stepped) (sound-step plan vs ps t (r .sound .seed) g at (r .sound .sound) .sound);
+        numbered = subst (λ (x : Stepping). Numbered (x .state)) (sym stepped) (numbered-step plan vs ps t (r .sound .seed) g at (r .sound .sound) (r .sound .numbered));
       };
       long = record {
         floats-long = long .floats-long ∙ r .long .floats-long;
@@ -87,57 +89,62 @@ firstOf w = stateOf w (record { taken = 1; records = 1; pops = 0 })
 abbrev pub leavesSeed : Node → Origin
 leavesSeed seed = record { place = 0; depth = 0; number = 0; node = seed }
 
-module _ (vs ps marks : List ℕ) (t : Task) (start : Point) (p : ℕ) (was : Work) (g : Ground (t .slots) vs ps marks) (room : Room (t .places) was) (places : 1 ≤ t .places) (listed : p < length ps / (t .slots * 8)) (apart : eqb p (t .polygon) ≡ false) (self : sameOf start start ≡ true)
-    {seed : Node} (seeded : seed ≡ seedNode start p) {w : Work} (grown : w ≡ planted (floorOf (t .slots) vs ps) t seed was) where
+module _ (plan vs ps : List ℕ) (t : Task) (was : Work) (g : Ground plan vs ps) (room : Room (t .places) was) (places : 1 ≤ t .places)
+    (listed : t .trip .from < polygonCountIn plan) (apart : eqb (t .trip .from) (t .trip .to) ≡ false)
+    (self : sameOf (t .trip .start) (t .trip .start) ≡ true) {seed : Node} (seeded : seed ≡ seedNode (t .trip .start) (t .trip .from)) {w : Work}
+    (grown : w ≡ planted (floorIn plan vs ps) t seed was) where
+  abbrev start : Point
+  start = t .trip .start
+
+  abbrev p : ℕ
+  p = t .trip .from
+
   abbrev ground : Floor
-  ground = floorOf (t .slots) vs ps
+  ground = floorIn plan vs ps
 
   first-is : firstOf w ≡ begun ground t (seedNode start p) was
   unfolding begun
   first-is = rw (grown, seeded)
 
-  first-sound : Sound vs ps t (seedNode start p) (firstOf w)
-  first-sound = subst (Sound vs ps t (seedNode start p)) (sym first-is) (sound-begun vs ps t (g .some-slots) (g .few-slots) (g .accepted) (g .some-vertices) start p listed was room places)
+  first-sound : Sound plan vs ps t (seedNode start p) (firstOf w)
+  first-sound = subst (Sound plan vs ps t (seedNode start p)) (sym first-is) (sound-begun plan vs ps t g listed was room places)
 
   pub first-fit : Fit t (firstOf w)
   first-fit = first-sound .fit
 
   first-on-record : OnRecord (firstOf w) (seedNode start p .root) 0
-  first-on-record = subst (λ (x : State). OnRecord x (seedNode start p .root) 0) (sym first-is) (on-first vs ps t (g .some-slots) (g .few-slots) (g .accepted) (g .some-vertices) start p listed was room places self)
+  first-on-record = subst (λ (x : State). OnRecord x (seedNode start p .root) 0) (sym first-is) (on-first plan vs ps t g listed was room places self)
 
-  pub first-leaves : Leaves vs ps t (firstOf w) (leavesSeed seed)
+  pub first-leaves : Leaves plan vs ps (firstOf w) (leavesSeed seed)
   unfolding seedNode
   first-leaves = rw seeded (record {
-    stands = seed-stands (t .slots) vs ps (g .some-slots) (g .few-slots) (g .accepted) (g .some-vertices) start p listed;
-    on-record = first-on-record;
-    place-few = omega arith;
-    depth-few = omega arith;
-    points-few = omega arith;
+    stands = seed-stands plan vs ps g start p listed;
+    leaving = record { on-record = first-on-record; place-few = omega arith; depth-few = omega arith; points-few = omega arith };
   })
 
-  pub first-apart : eqb (seed .polygon) (t .polygon) ≡ false
+  pub first-apart : eqb (seed .polygon) (t .trip .to) ≡ false
   unfolding seedNode
   first-apart = rw seeded apart
 
-  module _ (m : Making) (made : m ≡ madeAll ground t (firstOf w) (leavesSeed seed) (stepsFrom ground (t .polygon) seed)) where
-    made-is : m ≡ madeAll ground t (begun ground t (seedNode start p) was) (seedOrigin ground t (seedNode start p)) (stepsFrom ground (t .polygon) (seedNode start p))
+  module _ (m : Making) (made : m ≡ madeAll ground t (firstOf w) (leavesSeed seed) (stepsFrom ground (t .trip .to) seed)) where
+    made-is : m ≡ madeAll ground t (begun ground t (seedNode start p) was) (seedOrigin ground t (seedNode start p)) (stepsFrom ground (t .trip .to) (seedNode start p))
     unfolding seedOrigin
     made-is = made ∙ rw (first-is, seeded)
 
-    pub made-sound : SoundFrom vs ps t (m .state)
+    pub made-sound : SoundFrom plan vs ps t (m .state)
     made-sound = record {
       seed = seedNode start p;
-      sound = subst (λ (x : Making). Sound vs ps t (seedNode start p) (x .state)) (sym made-is) (sound-seeded vs ps t (g .some-slots) (g .few-slots) (g .accepted) (g .some-vertices) start p listed was room places);
-      numbered = subst (λ (x : Making). Numbered (x .state)) (sym made-is) (numbered-seeded vs ps t (g .some-slots) (g .few-slots) (g .accepted) (g .some-vertices) start p listed was room places self);
+      sound = subst (λ (x : Making). Sound plan vs ps t (seedNode start p) (x .state)) (sym made-is) (sound-seeded plan vs ps t g listed was room places);
+      numbered = subst (λ (x : Making). Numbered (x .state)) (sym made-is) (numbered-seeded plan vs ps t g listed was room places self);
     }
 
     pub made-uncounted : m .state .counts .pops ≡ 0
-    made-uncounted = ap (λ (x : Making). x .state .counts .pops) made ∙ pops-made-all ground t (stepsFrom ground (t .polygon) seed) (firstOf w) (leavesSeed seed)
+    made-uncounted = ap (λ (x : Making). x .state .counts .pops) made ∙ pops-made-all ground t (stepsFrom ground (t .trip .to) seed) (firstOf w) (leavesSeed seed)
 
-    pub searches-full : (budget : ℕ) → m .full ≡ true → ending (m .state) Filled ≡ searchedFrom ground t start p budget was
+    pub searches-full : (budget : ℕ) → m .full ≡ true → ending (m .state) Filled ≡ searchedFrom ground t budget was
     unfolding searchedFrom
     searches-full budget e = rw (← made-is, e)
 
-    pub searches-on : (budget : ℕ) → m .full ≡ false → {e : Ending} → e ≡ run ground t budget (m .state) → e ≡ searchedFrom ground t start p budget was
+    pub searches-on : (budget : ℕ) → m .full ≡ false → {e : Ending} → e ≡ run ground t budget (m .state) → e ≡ searchedFrom ground t budget was
     unfolding searchedFrom
     searches-on budget full e = e ∙ rw (← made-is, full)

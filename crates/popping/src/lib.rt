@@ -4,14 +4,15 @@ use making::make_steps;
 use places::F_AT;
 ghost use mathlib.Core.Path.{_≡_};
 ghost use mathlib.Core.Bool.{true, false};
-ghost use Prim.Native.Nat.{ℕ, _+_, _*_, _/_, _≤_, _<_, _^_};
+ghost use Prim.Native.Nat.{_+_, _≤_, _<_, _^_};
 ghost use lib.Dec.{eqb};
-ghost use lib.ListN.{length};
 ghost use Rattle.point.specs.Point.{sameOf};
-ghost use Rattle.stored.specs.Stored.{Floor, floorOf};
+ghost use Rattle.plan.specs.Plan.{polygonCountIn};
+ghost use Rattle.stored.specs.Stored.{Floor, floorIn};
+ghost use Rattle.edges.specs.Ground.{Ground};
 ghost use Rattle.places.specs.Layout.{workOf, Room};
 ghost use Rattle.machine.specs.Search.{stateOf, stepping, ending, visited, step, run, planted, searchedFrom};
-ghost use Rattle.machine.specs.Sound.{Ground, SoundFrom};
+ghost use Rattle.machine.specs.Sound.{SoundFrom};
 use machine::Counts;
 use machine::Ended;
 use machine::Finish;
@@ -28,7 +29,7 @@ use places::put_floats;
 use places::put_record;
 use places::put_words;
 use places::record_distance;
-use point::Point;
+use plan::PLAN;
 use queue::NONE;
 use steps::Node;
 
@@ -37,7 +38,7 @@ use steps::Node;
 fn visit(
     vertices: &[u8],
     polygons: &[u8],
-    marks: &[u32; 32],
+    plan: &[u32; PLAN],
     task: Task,
     counts: Counts,
     i: usize,
@@ -45,10 +46,10 @@ fn visit(
     words: &mut [u32],
     tree: &mut [u32],
 ) -> Stepped
-    requires { ⌜ Ground (task .slots) (now vertices) (now polygons) (now marks) ⌝ }
-    requires { ⌜ SoundFrom (now vertices) (now polygons) task (stateOf (workOf (now floats) (now words) (now tree)) counts) ⌝ }
+    requires { ⌜ Ground (now plan) (now vertices) (now polygons) ⌝ }
+    requires { ⌜ SoundFrom (now plan) (now vertices) (now polygons) task (stateOf (workOf (now floats) (now words) (now tree)) counts) ⌝ }
     requires { ⌜ i < counts .taken ⌝ }
-    ensures { λ r. ⌜ stepping (stateOf (workOf (now (floats .exit)) (now (words .exit)) (now (tree .exit))) (r .counts)) (r .outcome) ≡ visited (floorOf (task .slots) (now (vertices .entry)) (now (polygons .entry))) task (stateOf (workOf (now (floats .entry)) (now (words .entry)) (now (tree .entry))) counts) i ⌝ }
+    ensures { λ r. let f = floorIn (now (plan .entry)) (now (vertices .entry)) (now (polygons .entry)) in let before = stateOf (workOf (now (floats .entry)) (now (words .entry)) (now (tree .entry))) counts in let after = stateOf (workOf (now (floats .exit)) (now (words .exit)) (now (tree .exit))) (r .counts) in ⌜ stepping after (r .outcome) ≡ visited f task before i ⌝ }
 {
     let node = node_at(floats, words, i);
     let number = number_at(words, i) as usize;
@@ -58,7 +59,7 @@ fn visit(
             outcome: Outcome::Goes,
         };
     }
-    if node.polygon as usize == task.polygon {
+    if node.polygon == task.trip.to {
         return Stepped {
             counts,
             outcome: Outcome::Ends(Finish::Arrived(i)),
@@ -73,7 +74,7 @@ fn visit(
     let made = make_steps(
         vertices,
         polygons,
-        marks,
+        plan,
         task,
         counts,
         from,
@@ -98,17 +99,17 @@ fn visit(
 fn turn(
     vertices: &[u8],
     polygons: &[u8],
-    marks: &[u32; 32],
+    plan: &[u32; PLAN],
     task: Task,
     counts: Counts,
     floats: &mut [f32],
     words: &mut [u32],
     tree: &mut [u32],
 ) -> Stepped
-    requires { ⌜ Ground (task .slots) (now vertices) (now polygons) (now marks) ⌝ }
-    requires { ⌜ SoundFrom (now vertices) (now polygons) task (stateOf (workOf (now floats) (now words) (now tree)) counts) ⌝ }
+    requires { ⌜ Ground (now plan) (now vertices) (now polygons) ⌝ }
+    requires { ⌜ SoundFrom (now plan) (now vertices) (now polygons) task (stateOf (workOf (now floats) (now words) (now tree)) counts) ⌝ }
     requires { ⌜ counts .pops + 1 < 2 ^ 64 ⌝ }
-    ensures { λ r. ⌜ stepping (stateOf (workOf (now (floats .exit)) (now (words .exit)) (now (tree .exit))) (r .counts)) (r .outcome) ≡ step (floorOf (task .slots) (now (vertices .entry)) (now (polygons .entry))) task (stateOf (workOf (now (floats .entry)) (now (words .entry)) (now (tree .entry))) counts) ⌝ }
+    ensures { λ r. let f = floorIn (now (plan .entry)) (now (vertices .entry)) (now (polygons .entry)) in let before = stateOf (workOf (now (floats .entry)) (now (words .entry)) (now (tree .entry))) counts in let after = stateOf (workOf (now (floats .exit)) (now (words .exit)) (now (tree .exit))) (r .counts) in ⌜ stepping after (r .outcome) ≡ step f task before ⌝ }
 {
     let least = queue::least(tree);
     if least == NONE {
@@ -127,7 +128,7 @@ fn turn(
     visit(
         vertices,
         polygons,
-        marks,
+        plan,
         task,
         counts,
         i,
@@ -141,7 +142,7 @@ fn turn(
 fn run(
     vertices: &[u8],
     polygons: &[u8],
-    marks: &[u32; 32],
+    plan: &[u32; PLAN],
     task: Task,
     counts: Counts,
     budget: usize,
@@ -149,15 +150,15 @@ fn run(
     words: &mut [u32],
     tree: &mut [u32],
 ) -> Ended
-    requires { ⌜ Ground (task .slots) (now vertices) (now polygons) (now marks) ⌝ }
-    requires { ⌜ SoundFrom (now vertices) (now polygons) task (stateOf (workOf (now floats) (now words) (now tree)) counts) ⌝ }
+    requires { ⌜ Ground (now plan) (now vertices) (now polygons) ⌝ }
+    requires { ⌜ SoundFrom (now plan) (now vertices) (now polygons) task (stateOf (workOf (now floats) (now words) (now tree)) counts) ⌝ }
     requires { ⌜ counts .pops + budget < 2 ^ 64 ⌝ }
-    ensures { λ r. ⌜ ending (stateOf (workOf (now (floats .exit)) (now (words .exit)) (now (tree .exit))) (r .counts)) (r .finish) ≡ run (floorOf (task .slots) (now (vertices .entry)) (now (polygons .entry))) task budget (stateOf (workOf (now (floats .entry)) (now (words .entry)) (now (tree .entry))) counts) ⌝ }
+    ensures { λ r. let f = floorIn (now (plan .entry)) (now (vertices .entry)) (now (polygons .entry)) in let before = stateOf (workOf (now (floats .entry)) (now (words .entry)) (now (tree .entry))) counts in let after = stateOf (workOf (now (floats .exit)) (now (words .exit)) (now (tree .exit))) (r .counts) in ⌜ ending after (r .finish) ≡ run f task budget before ⌝ }
 {
     let mut counts = counts;
     let mut left = budget;
     while 0 < left {
-        let stepped = turn(vertices, polygons, marks, task, counts, floats, words, tree);
+        let stepped = turn(vertices, polygons, plan, task, counts, floats, words, tree);
         counts = stepped.counts;
         let outcome = stepped.outcome;
         if let Outcome::Ends(finish) = outcome {
@@ -188,25 +189,24 @@ fn plant(task: Task, seed: Node, floats: &mut [f32], words: &mut [u32], tree: &m
     put_record(floats, 0, seed.root, 0.0);
 }
 
-// Searches from a point in polygon p.
+// Searches from the trip's start, whose polygon is not the goal's.
 pub fn search_from(
     vertices: &[u8],
     polygons: &[u8],
-    marks: &[u32; 32],
+    plan: &[u32; PLAN],
     task: Task,
-    start: Point,
-    p: usize,
     budget: usize,
     floats: &mut [f32],
     words: &mut [u32],
     tree: &mut [u32],
 ) -> Ended
-    requires { ⌜ Ground (task .slots) (now vertices) (now polygons) (now marks) ⌝ }
+    requires { ⌜ Ground (now plan) (now vertices) (now polygons) ⌝ }
     requires { ⌜ Room (task .places) (workOf (now floats) (now words) (now tree)) × (1 ≤ task .places) ⌝ }
-    requires { ⌜ (p < length (now polygons) / (task .slots * 8)) × (eqb p (task .polygon) ≡ false) × (sameOf start start ≡ true) ⌝ }
-    ensures { λ r. ⌜ ending (stateOf (workOf (now (floats .exit)) (now (words .exit)) (now (tree .exit))) (r .counts)) (r .finish) ≡ searchedFrom (floorOf (task .slots) (now (vertices .entry)) (now (polygons .entry))) task start p budget (workOf (now (floats .entry)) (now (words .entry)) (now (tree .entry))) ⌝ }
+    requires { ⌜ (task .trip .from < polygonCountIn (now plan)) × (eqb (task .trip .from) (task .trip .to) ≡ false) × (sameOf (task .trip .start) (task .trip .start) ≡ true) ⌝ }
+    ensures { λ r. let f = floorIn (now (plan .entry)) (now (vertices .entry)) (now (polygons .entry)) in let before = workOf (now (floats .entry)) (now (words .entry)) (now (tree .entry)) in let after = stateOf (workOf (now (floats .exit)) (now (words .exit)) (now (tree .exit))) (r .counts) in ⌜ ending after (r .finish) ≡ searchedFrom f task budget before ⌝ }
 {
-    let seed = Node::seed(start, p as u32);
+    let trip = task.trip;
+    let seed = Node::seed(trip.start, trip.from);
     plant(task, seed, floats, words, tree);
     let counts = Counts {
         taken: 1,
@@ -222,7 +222,7 @@ pub fn search_from(
     let made = make_steps(
         vertices,
         polygons,
-        marks,
+        plan,
         task,
         counts,
         from,
@@ -240,7 +240,7 @@ pub fn search_from(
     run(
         vertices,
         polygons,
-        marks,
+        plan,
         task,
         counts,
         budget,

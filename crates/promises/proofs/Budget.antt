@@ -1,4 +1,4 @@
--- With a larger budget, or a larger output, a search that found finds the same: the same steps, the same bytes. Assumes nothing.
+-- With a larger budget a search that its budget did not stop ends as it did: the same steps, the same bytes. Assumes nothing.
 use Prim.Native.Nat.{ℕ, zero, suc, _+_}
 use native.Mathlib.Omega.{arith}
 use mathlib.Core.Path.{_≡_, refl, ap}
@@ -18,9 +18,10 @@ use Rattle.machine.specs.declared.Outcome.the-variants.{Goes, Ends}
 use Rattle.places.specs.Layout.{Work, leastIn, placesIn}
 use Rattle.machine.specs.Search.{State, Ending, ending, step, onwards, run, searchedFrom, madeAll, begun, seedOrigin, Making}
 use Rattle.writing.specs.declared.Answer.the-variants.{Spent, NoPlaces}
-use Rattle.writing.specs.Told.{written, straightBytes, told}
+use Rattle.writing.specs.Delivered.{written, straightBytes, delivered}
 use Rattle.search.specs.Whole.{Searched, searchedOf, ifInside, withWork, routed, betweenOf, searchOf}
 use Rattle.steps.specs.Steps.{stepsFrom, seedNode}
+use Rattle.promises.specs.Promises.{LargerBudgetSame}
 
 -- ---- a run that the budget did not stop
 
@@ -70,8 +71,8 @@ module _ (s : ℕ) (f : Floor) (q : Question) (from to : ℕ) (w : Work) (out : 
   abbrev task : Task
   task = record { slots = s; goal = q .goal; polygon = to; places = placesIn w }
 
-  told-stopped : (e : Ending) → e .finish ≡ Stopped → told (q .start) from (q .goal) e out .answer ≡ Spent (e .state .counts .pops)
-  unfolding told
+  told-stopped : (e : Ending) → e .finish ≡ Stopped → delivered (q .start) from (q .goal) e out .answer ≡ Spent (e .state .counts .pops)
+  unfolding delivered
   told-stopped e h = rw h
 
   pub between-longer : (budget more : ℕ) → ((steps : ℕ) → betweenOf s f q from to budget w out .answer ≡ Spent steps → ⊥) → betweenOf s f q from to (budget + more) w out ≡ betweenOf s f q from to budget w out
@@ -87,21 +88,18 @@ module _ (s : ℕ) (f : Floor) (q : Question) (from to : ℕ) (w : Work) (out : 
       straight : Searched
       straight = withWork w (written (straightBytes (q .start) from (q .goal)) 0 out)
 
-      go : (a b : Bool) → ((steps : ℕ) → cond {A = Searched} a (searchedOf NoPlaces w out) (cond {A = Searched} b straight (withWork (e .state .work) (told (q .start) from (q .goal) e out))) .answer ≡ Spent steps → ⊥)
-          → cond {A = Searched} a (searchedOf NoPlaces w out) (cond {A = Searched} b straight (withWork (l .state .work) (told (q .start) from (q .goal) l out)))
-          ≡ cond {A = Searched} a (searchedOf NoPlaces w out) (cond {A = Searched} b straight (withWork (e .state .work) (told (q .start) from (q .goal) e out)))
+      go : (a b : Bool) → ((steps : ℕ) → cond {A = Searched} a (searchedOf NoPlaces w out) (cond {A = Searched} b straight (withWork (e .state .work) (delivered (q .start) from (q .goal) e out))) .answer ≡ Spent steps → ⊥)
+          → cond {A = Searched} a (searchedOf NoPlaces w out) (cond {A = Searched} b straight (withWork (l .state .work) (delivered (q .start) from (q .goal) l out)))
+          ≡ cond {A = Searched} a (searchedOf NoPlaces w out) (cond {A = Searched} b straight (withWork (e .state .work) (delivered (q .start) from (q .goal) e out)))
       go true b h = refl
       go false true h = refl
       go false false h =
-          ap (λ (x : Ending). withWork (x .state .work) (told (q .start) from (q .goal) x out))
+          ap (λ (x : Ending). withWork (x .state .work) (delivered (q .start) from (q .goal) x out))
           (search-longer f task (q .start) from budget more w (λ stopped. h (e .state .counts .pops) (told-stopped e stopped)))
 
--- Where a search does not end by its budget, every larger budget gives the same answer, the same buffers and the same output: so where it answers 0, it answers 0 with the
--- same bytes and the same counted steps.
-pub larger-budget-same : (s : ℕ) (vs ps question : List ℕ) (budget more : ℕ) (w : Work) (out : List ℕ) → ((steps : ℕ) → searchOf s vs ps question budget w out .answer ≡ Spent steps → ⊥)
-    → searchOf s vs ps question (budget + more) w out ≡ searchOf s vs ps question budget w out
+pub larger-budget-same : (s : ℕ) (vs ps question : List ℕ) (budget : ℕ) (w : Work) → LargerBudgetSame s vs ps question budget w
 unfolding searchOf
-larger-budget-same s vs ps question budget more w out = go (lookOf s vs ps question)
+larger-budget-same s vs ps question budget w more out = go (lookOf s vs ps question)
   where
     go : (look : Look) → ((steps : ℕ) → ifInside look w out (λ p goal. betweenOf s (floorOf s vs ps) (questionOf question) p goal budget w out) .answer ≡ Spent steps → ⊥)
         → ifInside look w out (λ p goal. betweenOf s (floorOf s vs ps) (questionOf question) p goal (budget + more) w out) ≡ ifInside look w out (λ p goal. betweenOf s (floorOf s vs ps) (questionOf question) p goal budget w out)

@@ -1,28 +1,27 @@
--- Document 01: "For each input, refusals included, a public function's contract decides the answer and each lent buffer afterwards; prove that any two permitted answers
--- coincide." One statement for each function that users, programs or C call, over its contract itself: `Post` is what the contract permits, of the arguments, the answer and
--- the arguments at exit. Assumes nothing.
+-- "Prove that any two permitted answers coincide": one statement for each function that users, programs or C call, over its contract itself (specs/Permits). `Post` is what
+-- the contract permits; z is the answer and e the arguments at exit. Assumes nothing.
 use Prim.Native.Nat.{ℕ}
 use mathlib.Core.Path.{_≡_, sym, ap, _∙_}
 use mathlib.Core.List.{List}
 use lib.Ieee.{Float}
 use Rattle.readout.specs.declared.Readout.{Readout}
-use Rattle.writing.specs.declared.Answer.{Answer}
 use Rattle.search.specs.Whole.{Searched}
 use Rattle.cart_c.specs.Handed.{Handed}
+use Rattle.promises.specs.Permits.{Coincide, SeenOfSearch, SeenInC, DefaultIs4096}
+use Rattle.told.proofs.Told.number.Reads as told-number
 use Rattle.search.proofs.search.Reads as search
 use Rattle.search.proofs.search_default.Reads as search-default
 use Rattle.places.proofs.places_in.Reads as places-in
-use Rattle.writing.proofs.Answer.number.Reads as answer-number
+use Rattle.writing.proofs.Answer.told.Reads as answer-told
+use Rattle.writing.proofs.Answer.steps.Reads as answer-steps
 use Rattle.judge.proofs.judge.Reads as judge
-use Rattle.judge.proofs.Verdict.number.Reads as verdict-number
+use Rattle.judge.proofs.Verdict.told.Reads as verdict-told
 use Rattle.readout.proofs.read_out.Reads as read-out
-use Rattle.readout.proofs.Readout.number.Reads as readout-number
+use Rattle.readout.proofs.Readout.told.Reads as readout-told
 use Rattle.floor.proofs.look_at_floor.Reads as look-at-floor
 use Rattle.floor.proofs.look_at.Reads as look-at
-use Rattle.floor.proofs.Refusal.number.Reads as refusal-number
+use Rattle.floor.proofs.Refusal.told.Reads as refusal-told
 use Rattle.says.proofs.words.Reads as words
-use Rattle.says.proofs.refusal_at.Reads as refusal-at
-use Rattle.says.proofs.verdict_at.Reads as verdict-at
 use Rattle.cart_c.proofs.cart_judge.Reads as cart-judge
 use Rattle.cart_c.proofs.cart_read_out.Reads as cart-read-out
 use Rattle.cart_c.proofs.cart_words.Reads as cart-words
@@ -50,17 +49,7 @@ use Rattle.cone_c.proofs.geometry_clip_to_cone.Reads as geometry-clip-to-cone
 use Rattle.cone_c.proofs.geometry_lands_on.Reads as geometry-lands-on
 use Rattle.walk_c.proofs.geometry_walk_edge.Reads as geometry-walk-edge
 
--- ---- what it is to coincide
-
--- Whatever a contract permits of the same arguments, a caller sees the same: the answer, and what each lent buffer holds at exit. Below, z is the answer and e the arguments
--- at exit: `e .0` is the first, `e .1 .0` the second and so on, and `.now` is what a reference then refers to.
-abbrev pub Coincide : {L A Z E S : Type 0} → (L → A → Z → E → Type 0) → (Z → E → S) → Type 0
-Coincide {L} {A} {Z} {E} permits seen = (κs : L) (a : A) (z y : Z) (e f : E) → permits κs a z e → permits κs a y f → seen z e ≡ seen y f
-
--- What two contracts permit is the same, where the second gets the arguments of the first as `given` has them.
-abbrev pub Agree : {L A Z E M B Y F S : Type 0} → (L → A → Z → E → Type 0) → (Z → E → S) → (M → B → Y → F → Type 0) → (Y → F → S) → (A → B) → Type 0
-Agree {L} {A} {Z} {E} {M} {B} {Y} {F} permits seen permits-too seen-too given =
-    (κs : L) (ιs : M) (a : A) (z : Z) (y : Y) (e : E) (f : F) → permits κs a z e → permits-too ιs (given a) y f → seen z e ≡ seen-too y f
+-- ---- answers of several parts
 
 pair : {Z U : Type 0} {z y : Z} {u v : U} → z ≡ y → u ≡ v → _≡_ {A = Z × U} (z, u) (y, v)
 pair h k = rw (h, k)
@@ -68,40 +57,39 @@ pair h k = rw (h, k)
 triple : {Z U W : Type 0} {z y : Z} {u v : U} {s t : W} → z ≡ y → u ≡ v → s ≡ t → _≡_ {A = Z × U × W} (z, u, s) (y, v, t)
 triple h k l = rw (h, k, l)
 
--- of a search: the answer, the three work buffers and the output
-abbrev pub Seen : Type 0
-Seen = Answer × List Float × List ℕ × List ℕ × List ℕ
-
-abbrev seenOf : Searched → Seen
+abbrev seenOf : Searched → SeenOfSearch
 seenOf s = (s .answer, s .work .floats, s .work .words, s .work .queue, s .out)
 
 -- ---- the search
 
-pub search-coincides : Coincide {S = Seen} search.Post (λ z e. (z, e .1 .1 .1 .1 .0 .now, e .1 .1 .1 .1 .1 .0 .now, e .1 .1 .1 .1 .1 .1 .0 .now, e .1 .1 .1 .1 .1 .1 .1 .0 .now))
+pub search-coincides : Coincide {S = SeenOfSearch} search.Post (λ z e. (z, e .1 .1 .1 .1 .0 .now, e .1 .1 .1 .1 .1 .0 .now, e .1 .1 .1 .1 .1 .1 .0 .now, e .1 .1 .1 .1 .1 .1 .1 .0 .now))
 search-coincides κs a z y e f p q = ap seenOf (p ∙ sym q)
 
-pub search-default-coincides : Coincide {S = Seen} search-default.Post (λ z e. (z, e .1 .1 .1 .0 .now, e .1 .1 .1 .1 .0 .now, e .1 .1 .1 .1 .1 .0 .now, e .1 .1 .1 .1 .1 .1 .0 .now))
+pub search-default-coincides : Coincide {S = SeenOfSearch} search-default.Post (λ z e. (z, e .1 .1 .1 .0 .now, e .1 .1 .1 .1 .0 .now, e .1 .1 .1 .1 .1 .0 .now, e .1 .1 .1 .1 .1 .1 .0 .now))
 search-default-coincides κs a z y e f p q = ap seenOf (p ∙ sym q)
 
 pub places-in-coincides : Coincide places-in.Post (λ z e. z)
 places-in-coincides κs a z y e f p q = p ∙ sym q
 
-pub answer-number-coincides : Coincide answer-number.Post (λ z e. z)
-answer-number-coincides κs a z y e f p q = p ∙ sym q
+pub answer-told-coincides : Coincide answer-told.Post (λ z e. z)
+answer-told-coincides κs a z y e f p q = p ∙ sym q
+
+pub answer-steps-coincides : Coincide answer-steps.Post (λ z e. z)
+answer-steps-coincides κs a z y e f p q = p ∙ sym q
 
 -- ---- the judge and the read-out
 
 pub judge-coincides : Coincide judge.Post (λ z e. z)
 judge-coincides κs a z y e f p q = p ∙ sym q
 
-pub verdict-number-coincides : Coincide verdict-number.Post (λ z e. z)
-verdict-number-coincides κs a z y e f p q = p ∙ sym q
+pub verdict-told-coincides : Coincide verdict-told.Post (λ z e. z)
+verdict-told-coincides κs a z y e f p q = p ∙ sym q
 
 pub read-out-coincides : Coincide {S = Readout × List Float} read-out.Post (λ z e. (z, e .1 .1 .1 .1 .0 .now))
 read-out-coincides κs a z y e f p q = pair (p .0 ∙ sym (q .0)) (p .1 ∙ sym (q .1))
 
-pub readout-number-coincides : Coincide readout-number.Post (λ z e. z)
-readout-number-coincides κs a z y e f p q = p ∙ sym q
+pub readout-told-coincides : Coincide readout-told.Post (λ z e. z)
+readout-told-coincides κs a z y e f p q = p ∙ sym q
 
 -- ---- the floor
 
@@ -111,19 +99,16 @@ look-at-floor-coincides κs a z y e f p q = p ∙ sym q
 pub look-at-coincides : Coincide look-at.Post (λ z e. z)
 look-at-coincides κs a z y e f p q = p ∙ sym q
 
-pub refusal-number-coincides : Coincide refusal-number.Post (λ z e. z)
-refusal-number-coincides κs a z y e f p q = p ∙ sym q
+pub refusal-told-coincides : Coincide refusal-told.Post (λ z e. z)
+refusal-told-coincides κs a z y e f p q = p ∙ sym q
 
--- ---- the words
+-- ---- the number and the words
+
+pub told-number-coincides : Coincide told-number.Post (λ z e. z)
+told-number-coincides κs a z y e f p q = p ∙ sym q
 
 pub words-coincides : Coincide {S = ℕ × List ℕ} words.Post (λ z e. (z, e .1 .0 .now))
 words-coincides κs a z y e f p q = pair (p .0 ∙ sym (q .0)) (p .1 .0 ∙ sym (q .1 .0))
-
-pub refusal-at-coincides : Coincide refusal-at.Post (λ z e. z)
-refusal-at-coincides κs a z y e f p q = p ∙ sym q
-
-pub verdict-at-coincides : Coincide verdict-at.Post (λ z e. z)
-verdict-at-coincides κs a z y e f p q = p ∙ sym q
 
 -- ---- for C: the cart
 
@@ -135,10 +120,6 @@ cart-read-out-coincides κs a z y e f p q = triple (p .0 ∙ sym (q .0)) (p .1 .
 
 pub cart-words-coincides : Coincide {S = ℕ × List ℕ} cart-words.Post (λ z e. (z, e .1 .0 .now))
 cart-words-coincides κs a z y e f p q = pair (p .0 ∙ sym (q .0)) (p .1 ∙ sym (q .1))
-
--- the number, the three work buffers, the output, the counted steps and the value
-abbrev pub SeenInC : Type 0
-SeenInC = ℕ × List Float × List ℕ × List ℕ × List ℕ × ℕ × ℕ
 
 abbrev seenInC : Handed → SeenInC
 seenInC h = (h .number, h .work .floats, h .work .words, h .work .queue, h .out, h .steps, h .value)
@@ -218,6 +199,5 @@ geometry-walk-edge-coincides κs a z y e f p q = pair (p .0 ∙ sym (q .0)) (p .
 
 -- ---- the entry without a budget
 
--- "The entry without a budget uses 4,096": it permits just what the entry with a budget permits of 4,096, all else being the same.
-pub default-is-4096 : Agree {S = Seen} search-default.Post (λ z e. (z, e .1 .1 .1 .0 .now, e .1 .1 .1 .1 .0 .now, e .1 .1 .1 .1 .1 .0 .now, e .1 .1 .1 .1 .1 .1 .0 .now)) search.Post (λ z e. (z, e .1 .1 .1 .1 .0 .now, e .1 .1 .1 .1 .1 .0 .now, e .1 .1 .1 .1 .1 .1 .0 .now, e .1 .1 .1 .1 .1 .1 .1 .0 .now)) (λ a. (a .0, (a .1 .0, (a .1 .1 .0, (4096, a .1 .1 .1)))))
+pub default-is-4096 : DefaultIs4096
 default-is-4096 κs ιs a z y e f p q = ap seenOf (p ∙ sym q)

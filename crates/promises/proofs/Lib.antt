@@ -1,6 +1,6 @@
 pub mod Ends
 pub mod Routes
-pub mod Told
+pub mod Output
 pub mod Budget
 pub mod Refusals
 pub mod Room

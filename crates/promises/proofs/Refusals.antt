@@ -1,18 +1,16 @@
--- "Other than 0, nothing in the output changes": neither the search's output nor the read-out's points. "Up to 10 the work buffers stay too." First of the definitions,
--- then of the contracts themselves (`Post` is what a contract permits, of the arguments, the answer and the arguments at exit). Assumes nothing.
+-- "Other than 0, nothing in the output changes": neither the search's output nor the read-out's points. "Up to 10 the work buffers stay too." First of the definitions
+-- (specs/Promises), then of the contracts themselves (specs/Permits; `Post` is what a contract permits). Assumes nothing.
 use Prim.Native.Nat.{ℕ, _*_}
 use mathlib.Core.Path.{_≡_, refl, ap, _∙_}
 use mathlib.Core.Bool.{Bool, true, false, cond}
 use mathlib.Core.List.{List}
 use borrow.Author.Tests.{ltb-true, ltb-false}
-use lib.Dec.{eqb, ltb}
+use lib.Dec.{ltb}
 use lib.Ieee.{Float}
 use lib.ListN.{length}
 use lib.Seq.{sets}
+use Rattle.told.specs.Told.{numberOf}
 use Rattle.point.specs.declared.Point.{Point}
-use Rattle.floor.specs.declared.Refusal.{Refusal}
-use Rattle.floor.specs.declared.Look.the-variants.{Inside, Refused}
-use Rattle.floor.specs.Look.{lookOf}
 use Rattle.route.specs.declared.Judged.the-variants.{Accepted, Length, NotSeed, NotStep, NotEnd}
 use Rattle.judge.specs.declared.Verdict.{Verdict}
 use Rattle.judge.specs.declared.Verdict.the-variants.{Read}
@@ -20,34 +18,28 @@ use Rattle.judge.specs.declared.Verdict.the-variants.{Refused as Unjudged}
 use Rattle.readout.specs.declared.Readout.{Readout}
 use Rattle.readout.specs.declared.Readout.the-variants.{Short, Listed}
 use Rattle.judge.specs.Verdict.{verdictOf}
-use Rattle.readout.specs.Readout.{floatsOf, listed, listing, answerIf, outIf, routePoints, readoutOf, writtenOf, readoutNumber}
+use Rattle.readout.specs.Readout.{floatsOf, listed, listing, answerIf, outIf, routePoints, readoutOf, writtenOf, readoutTold, readoutNumber}
 use Rattle.readout.proofs.read_out.Reads as read-out
 use Rattle.cart_c.proofs.cart_read_out.Reads as cart-read-out
-use Rattle.writing.specs.declared.Answer.{Answer}
-use Rattle.writing.specs.declared.Answer.the-variants.{NoPlaces}
-use Rattle.writing.specs.declared.Answer.the-variants.{Refused as Turned}
-use Rattle.places.specs.Layout.{Work, placesIn}
-use Rattle.writing.specs.Answers.{answerNumber}
-use Rattle.search.specs.Whole.{Searched, searchedOf, routed, betweenOf, searchOf}
+use Rattle.places.specs.Layout.{Work}
+use Rattle.writing.specs.Answers.{answerTold, answerNumber}
+use Rattle.search.specs.Whole.{Searched, routed, betweenOf, searchOf}
 use Rattle.search.proofs.search.Reads as search
 use Rattle.search.proofs.search_default.Reads as search-default
-use Rattle.promises.proofs.Told.{Tells, without, with-route, Route, search-tells, route-fits, route-lacks}
+use Rattle.promises.specs.Promises.{TellsTheSame, without, with-route, Route, RefusalLeavesOutput, RefusedLeavesBuffers, NoPlacesLeavesBuffers, OnePolygonLeavesBuffers, ReadOutLeavesPoints}
+use Rattle.promises.specs.Permits.{UnchangedUnlessZero}
+use Rattle.promises.proofs.Output.{search-tells, route-fits, route-lacks}
 
 -- ---- the output
 
--- an answer that is not 0
-abbrev NotZero : Answer → Type 0
-NotZero a = answerNumber a ≡ 0 → ⊥
-
--- "Other than 0, nothing in the output changes."
-pub refusal-leaves-output : (s : ℕ) (vs ps question : List ℕ) (budget : ℕ) (w : Work) (out : List ℕ) → NotZero (searchOf s vs ps question budget w out .answer) → searchOf s vs ps question budget w out .out ≡ out
-unfolding answerNumber
+pub refusal-leaves-output : (s : ℕ) (vs ps question : List ℕ) (budget : ℕ) (w : Work) → RefusalLeavesOutput s vs ps question budget w
+unfolding answerTold numberOf
 refusal-leaves-output s vs ps question budget w out = go (search-tells s vs ps question budget w)
   where
     asked : List ℕ → Searched
     asked = searchOf s vs ps question budget w
 
-    go : Tells asked → NotZero (asked out .answer) → asked out .out ≡ out
+    go : TellsTheSame asked → (answerNumber (asked out .answer) ≡ 0 → ⊥) → asked out .out ≡ out
     go (without answer work none h) z = ap (λ (x : Searched). x .out) (h out)
     go (with-route bytes steps work h) z = by (ltb (length out) (length bytes)) refl
       where
@@ -60,19 +52,15 @@ refusal-leaves-output s vs ps question budget w out = go (search-tells s vs ps q
 
 -- ---- the work buffers
 
--- "Up to 10 the work buffers stay too": where floor or question is refused, or there is no place, all three are as they were.
-pub refused-leaves-buffers : (s : ℕ) (vs ps question : List ℕ) (budget : ℕ) (w : Work) (out : List ℕ) (r : Refusal) → lookOf s vs ps question ≡ Refused r → searchOf s vs ps question budget w out ≡ searchedOf (Turned r) w out
+pub refused-leaves-buffers : (s : ℕ) (vs ps question : List ℕ) (budget : ℕ) (w : Work) → RefusedLeavesBuffers s vs ps question budget w
 unfolding searchOf
 refused-leaves-buffers s vs ps question budget w out r e = rw e
 
-pub no-places-leaves-buffers : (s : ℕ) (vs ps question : List ℕ) (budget : ℕ) (w : Work) (out : List ℕ) (from to : ℕ) → lookOf s vs ps question ≡ Inside from to → eqb (placesIn w) 0 ≡ true
-    → searchOf s vs ps question budget w out ≡ searchedOf NoPlaces w out
+pub no-places-leaves-buffers : (s : ℕ) (vs ps question : List ℕ) (budget : ℕ) (w : Work) → NoPlacesLeavesBuffers s vs ps question budget w
 unfolding searchOf betweenOf
 no-places-leaves-buffers s vs ps question budget w out from to e z = rw (e, z)
 
--- "Start and goal in one polygon: found, no steps, work buffers untouched."
-pub one-polygon-leaves-buffers : (s : ℕ) (vs ps question : List ℕ) (budget : ℕ) (w : Work) (out : List ℕ) (from to : ℕ) → lookOf s vs ps question ≡ Inside from to → eqb (placesIn w) 0 ≡ false → eqb from to ≡ true
-    → searchOf s vs ps question budget w out .work ≡ w
+pub one-polygon-leaves-buffers : (s : ℕ) (vs ps question : List ℕ) (budget : ℕ) (w : Work) → OnePolygonLeavesBuffers s vs ps question budget w
 unfolding searchOf betweenOf routed
 one-polygon-leaves-buffers s vs ps question budget w out from to e z same = rw (e, z, same)
 
@@ -83,15 +71,14 @@ abbrev NotRead : Readout → Type 0
 NotRead answer = readoutNumber answer ≡ 0 → ⊥
 
 listing-leaves : (points : List Point) (out : List Float) → NotRead (listed points out) → listing points out ≡ out
-unfolding listed listing readoutNumber
+unfolding listed listing readoutTold numberOf
 listing-leaves points out = go (ltb (length out) (length points * 2))
   where
     go : (b : Bool) → NotRead (cond {A = Readout} b Short (Listed (length points))) → cond {A = List Float} b out (sets out 0 (floatsOf points)) ≡ out
     go true h = refl
     go false h = absurd (h refl)
 
--- 13 and every refusal leave the points as they were.
-pub read-out-leaves-points : (s : ℕ) (vs ps question route : List ℕ) (out : List Float) → NotRead (readoutOf s vs ps question route out) → writtenOf s vs ps question route out ≡ out
+pub read-out-leaves-points : ReadOutLeavesPoints
 unfolding readoutOf writtenOf
 read-out-leaves-points s vs ps question route out = go (verdictOf s vs ps question route)
   where
@@ -108,28 +95,24 @@ read-out-leaves-points s vs ps question route out = go (verdictOf s vs ps questi
 
 -- ---- the contracts
 
--- Whatever a contract permits with another number than 0 leaves this as it was.
-abbrev pub Leaves : {L A Z E S : Type 0} → (L → A → Z → E → Type 0) → (Z → ℕ) → (A → S) → (E → S) → Type 0
-Leaves {L} {A} {Z} {E} permits number before after = (κs : L) (a : A) (z : Z) (e : E) → permits κs a z e → (number z ≡ 0 → ⊥) → after e ≡ before a
-
-pub search-leaves : Leaves search.Post answerNumber (λ a. a .1 .1 .1 .1 .1 .1 .1 .0 .now) (λ e. e .1 .1 .1 .1 .1 .1 .1 .0 .now)
+pub search-leaves : UnchangedUnlessZero search.Post answerNumber (λ a. a .1 .1 .1 .1 .1 .1 .1 .0 .now) (λ e. e .1 .1 .1 .1 .1 .1 .1 .0 .now)
 search-leaves κs a z e p h =
     ap (λ (s : Searched). s .out) p
     ∙ refusal-leaves-output 8 (a .0 .now) (a .1 .0 .now) (a .1 .1 .0 .now) (a .1 .1 .1 .0) _ (a .1 .1 .1 .1 .1 .1 .1 .0 .now)
     (λ k. h (ap (λ (s : Searched). answerNumber (s .answer)) p ∙ k))
 
-pub search-default-leaves : Leaves search-default.Post answerNumber (λ a. a .1 .1 .1 .1 .1 .1 .0 .now) (λ e. e .1 .1 .1 .1 .1 .1 .0 .now)
+pub search-default-leaves : UnchangedUnlessZero search-default.Post answerNumber (λ a. a .1 .1 .1 .1 .1 .1 .0 .now) (λ e. e .1 .1 .1 .1 .1 .1 .0 .now)
 search-default-leaves κs a z e p h =
     ap (λ (s : Searched). s .out) p
     ∙ refusal-leaves-output 8 (a .0 .now) (a .1 .0 .now) (a .1 .1 .0 .now) 4096 _ (a .1 .1 .1 .1 .1 .1 .0 .now)
     (λ k. h (ap (λ (s : Searched). answerNumber (s .answer)) p ∙ k))
 
-pub read-out-leaves : Leaves read-out.Post readoutNumber (λ a. a .1 .1 .1 .1 .0 .now) (λ e. e .1 .1 .1 .1 .0 .now)
+pub read-out-leaves : UnchangedUnlessZero read-out.Post readoutNumber (λ a. a .1 .1 .1 .1 .0 .now) (λ e. e .1 .1 .1 .1 .0 .now)
 read-out-leaves κs a z e p h =
     p .1
     ∙ read-out-leaves-points 8 (a .0 .now) (a .1 .0 .now) (a .1 .1 .0 .now) (a .1 .1 .1 .0 .now) (a .1 .1 .1 .1 .0 .now) (λ k. h (ap readoutNumber (p .0) ∙ k))
 
-pub cart-read-out-leaves : Leaves cart-read-out.Post (λ z. z) (λ a. a .1 .1 .1 .1 .0 .now) (λ e. e .1 .1 .1 .1 .0 .now)
+pub cart-read-out-leaves : UnchangedUnlessZero cart-read-out.Post (λ z. z) (λ a. a .1 .1 .1 .1 .0 .now) (λ e. e .1 .1 .1 .1 .0 .now)
 cart-read-out-leaves κs a z e p h =
     p .1 .0
     ∙ read-out-leaves-points 8 (a .0 .now) (a .1 .0 .now) (a .1 .1 .0 .now) (a .1 .1 .1 .0 .now) (a .1 .1 .1 .1 .0 .now) (λ k. h (p .0 ∙ k))

@@ -6,7 +6,7 @@ use mathlib.Core.Bool.{Bool, true, false, cond}
 use mathlib.Core.List.{List, _++_}
 use borrow.Author.Tests.{ltb-true}
 use lib.Dec.{eqb, ltb}
-use lib.ListN.{length, take, drop}
+use lib.ListN.{length, drop}
 use Rattle.word.specs.Word.{Bytes}
 use Rattle.floor.specs.declared.Look.{Look}
 use Rattle.floor.specs.declared.Look.the-variants.{Inside, Refused}
@@ -22,12 +22,13 @@ use Rattle.machine.specs.declared.Outcome.the-variants.{Ends}
 use Rattle.writing.specs.declared.Answer.the-variants.{Found, NoPlaces, Short}
 use Rattle.places.specs.Layout.{Work, placesIn}
 use Rattle.machine.specs.Search.{Ending}
-use Rattle.writing.specs.Told.{Told, toldOf, written, routeBytes, straightBytes, finished, told}
+use Rattle.writing.specs.Delivered.{Delivered, deliveredOf, written, routeBytes, straightBytes, finished, delivered}
 use Rattle.search.specs.Whole.{Searched, searchedOf, ifInside, withWork, routed, betweenOf, searchOf}
 use Rattle.machine.proofs.Kept.{Arrives, Finishes}
 use Rattle.search.proofs.Found.{route-long, straight-long}
+use Rattle.promises.specs.Promises.{WideIsNeverShort, LargerOutputSame}
 use Rattle.promises.proofs.Ends.{taskFor, endFor, at-least-one, sound-end}
-use Rattle.promises.proofs.Told.{search-tells, found-tells, route-fits, route-front}
+use Rattle.promises.proofs.Output.{search-tells, found-tells, route-fits, route-front}
 
 -- ---- what is written
 
@@ -35,7 +36,7 @@ short-written : (bytes : List ℕ) (most : ℕ) → length bytes ≤ 32 * (most 
 unfolding written
 short-written bytes most few counted out steps room = go (ltb (length out) (length bytes)) refl
   where
-    go : (b : Bool) → ltb (length out) (length bytes) ≡ b → cond {A = Told} b (toldOf (Short counted) out) (toldOf (Found counted (length bytes)) (bytes ++ drop (length bytes) out)) .answer ≡ Short steps → ⊥
+    go : (b : Bool) → ltb (length out) (length bytes) ≡ b → cond {A = Delivered} b (deliveredOf (Short counted) out) (deliveredOf (Found counted (length bytes)) (bytes ++ drop (length bytes) out)) .answer ≡ Short steps → ⊥
     go true l e = let h = ltb-true (length out) (length bytes) l in omega arith
     go false l e = let z : _≡_ {A = ℕ} 0 1 = cc in omega arith
 
@@ -69,13 +70,13 @@ module _ (s : ℕ) (vs ps question : List ℕ) (some : 0 < s) (few : s ≤ 16) (
     by-finish Stopped at counted steps e = let z : _≡_ {A = ℕ} 0 1 = cc in omega arith
 
     routed-wide : (steps : ℕ) → routed f task (q .start) from budget w out .answer ≡ Short steps → ⊥
-    unfolding routed told
+    unfolding routed delivered
     routed-wide steps = go (eqb from to)
       where
-        straight : Told
+        straight : Delivered
         straight = written (straightBytes (q .start) from (q .goal)) 0 out
 
-        around : Told
+        around : Delivered
         around = finished (end .state .work) (q .start) from (q .goal) (end .finish) (end .state .counts .pops) out
 
         go : (b : Bool) → cond {A = Searched} b (withWork w straight) (withWork (end .state .work) around) .answer ≡ Short steps → ⊥
@@ -90,10 +91,9 @@ module _ (s : ℕ) (vs ps question : List ℕ) (some : 0 < s) (few : s ≤ 16) (
       go true same e = let z : _≡_ {A = ℕ} 0 1 = cc in omega arith
       go false same e = routed-wide same steps e
 
--- "13: output too short": with 32 × (N + 1) bytes of room it never comes.
-pub wide-is-never-short : (s : ℕ) (vs ps question : List ℕ) → 0 < s → s ≤ 16 → Bytes ps → (budget : ℕ) (w : Work) (out : List ℕ) → 32 * (placesIn w + 1) ≤ length out → (steps : ℕ) → searchOf s vs ps question budget w out .answer ≡ Short steps → ⊥
+pub wide-is-never-short : (s : ℕ) (vs ps question : List ℕ) (budget : ℕ) (w : Work) → WideIsNeverShort s vs ps question budget w
 unfolding searchOf
-wide-is-never-short s vs ps question some few bytes budget w out wide steps = go (lookOf s vs ps question) refl
+wide-is-never-short s vs ps question budget w some few bytes out wide steps = go (lookOf s vs ps question) refl
   where
     go : (look : Look) → lookOf s vs ps question ≡ look → ifInside look w out (λ p goal. betweenOf s (floorOf s vs ps) (questionOf question) p goal budget w out) .answer ≡ Short steps → ⊥
     go (Inside from to) l e = between-wide s vs ps question some few bytes from to (inside-tells s vs ps question from to l) w budget out wide steps e
@@ -101,15 +101,7 @@ wide-is-never-short s vs ps question some few bytes budget w out wide steps = go
 
 -- ---- a larger output
 
--- the same answer, the same buffers and the same bytes in front
-pub record SameRoute (n : ℕ) (a b : Searched) : Type 0 where
-  pub answer-same : b .answer ≡ a .answer
-  pub work-same : b .work ≡ a .work
-  pub bytes-same : take n (b .out) ≡ take n (a .out)
-
--- Where a search answers 0, every larger output gets the answer 0 too, with the same counted steps, the same buffers and the same bytes.
-pub larger-output-same : (s : ℕ) (vs ps question : List ℕ) (budget : ℕ) (w : Work) (out wider : List ℕ) → length out ≤ length wider → (steps n : ℕ) → searchOf s vs ps question budget w out .answer ≡ Found steps n
-    → SameRoute n (searchOf s vs ps question budget w out) (searchOf s vs ps question budget w wider)
+pub larger-output-same : (s : ℕ) (vs ps question : List ℕ) (budget : ℕ) (w : Work) → LargerOutputSame s vs ps question budget w
 larger-output-same s vs ps question budget w out wider l steps n e =
     let search = searchOf s vs ps question budget w in
     let told = found-tells search out (search-tells s vs ps question budget w) steps n e in

@@ -8,7 +8,6 @@ use borrow.Author.Tests.{eqb-true}
 use lib.Dec.{eqb, ltb}
 use lib.ListN.{length, take, drop}
 use lib.Seq.{take-append-seam}
-use Rattle.word.specs.Word.{Bytes}
 use Rattle.floor.specs.declared.Look.{Look}
 use Rattle.floor.specs.declared.Look.the-variants.{Inside, Refused}
 use Rattle.stored.specs.Stored.{Floor, Question, floorOf, questionOf}
@@ -30,11 +29,12 @@ use Rattle.machine.specs.declared.Finish.the-variants.{Arrived, Emptied, Filled
 use Rattle.writing.specs.declared.Answer.the-variants.{Found, NoPlaces, Short}
 use Rattle.places.specs.Layout.{Work, placesIn}
 use Rattle.machine.specs.Search.{Ending}
-use Rattle.writing.specs.Told.{Told, toldOf, written, routeBytes, straightBytes, finished, told}
+use Rattle.writing.specs.Delivered.{Delivered, deliveredOf, written, routeBytes, straightBytes, finished, delivered}
 use Rattle.search.specs.Whole.{Searched, searchedOf, ifInside, withWork, routed, betweenOf, searchOf}
 use Rattle.machine.specs.declared.Outcome.the-variants.{Ends}
 use Rattle.machine.proofs.Kept.{Arrives, Finishes}
 use Rattle.search.proofs.Found.{route-is-true, straight-is-true}
+use Rattle.promises.specs.Promises.{FoundIsAccepted}
 use Rattle.promises.proofs.Ends.{taskFor, endFor, sound-end}
 
 -- ---- what is written
@@ -44,8 +44,8 @@ module _ (w : World Node) (bytes : List ℕ) (true-route : TrueRoute w bytes) wh
   unfolding written
   written-is-true counted out steps n = go (ltb (length out) (length bytes))
     where
-      go : (b : Bool) → cond {A = Told} b (toldOf (Short counted) out) (toldOf (Found counted (length bytes)) (bytes ++ drop (length bytes) out)) .answer ≡ Found steps n
-          → TrueRoute w (take n (cond {A = Told} b (toldOf (Short counted) out) (toldOf (Found counted (length bytes)) (bytes ++ drop (length bytes) out)) .out))
+      go : (b : Bool) → cond {A = Delivered} b (deliveredOf (Short counted) out) (deliveredOf (Found counted (length bytes)) (bytes ++ drop (length bytes) out)) .answer ≡ Found steps n
+          → TrueRoute w (take n (cond {A = Delivered} b (deliveredOf (Short counted) out) (deliveredOf (Found counted (length bytes)) (bytes ++ drop (length bytes) out)) .out))
       go true e = let z : _≡_ {A = ℕ} 0 1 = cc in absurd (omega arith)
       go false e =
           let k : length bytes ≡ n = cc in
@@ -82,19 +82,19 @@ module _ (s : ℕ) (vs ps question : List ℕ) (some : 0 < s) (few : s ≤ 16) (
     by-finish Filled at counted steps n e = let z : _≡_ {A = ℕ} 0 1 = cc in absurd (omega arith)
     by-finish Stopped at counted steps n e = let z : _≡_ {A = ℕ} 0 1 = cc in absurd (omega arith)
 
-    told-is-true : (steps n : ℕ) → told (q .start) from (q .goal) end out .answer ≡ Found steps n → TrueRoute world (take n (told (q .start) from (q .goal) end out .out))
-    unfolding told
+    told-is-true : (steps n : ℕ) → delivered (q .start) from (q .goal) end out .answer ≡ Found steps n → TrueRoute world (take n (delivered (q .start) from (q .goal) end out .out))
+    unfolding delivered
     told-is-true steps n e = by-finish (end .finish) (sound .arrives) (end .state .counts .pops) steps n e
 
     routed-is-true : (steps n : ℕ) → routed f task (q .start) from budget w out .answer ≡ Found steps n → TrueRoute world (take n (routed f task (q .start) from budget w out .out))
     unfolding routed
     routed-is-true steps n = go (eqb from to) refl
       where
-        straight : Told
+        straight : Delivered
         straight = written (straightBytes (q .start) from (q .goal)) 0 out
 
-        around : Told
-        around = told (q .start) from (q .goal) end out
+        around : Delivered
+        around = delivered (q .start) from (q .goal) end out
 
         go : (b : Bool) → eqb from to ≡ b → cond {A = Searched} b (withWork w straight) (withWork (end .state .work) around) .answer ≡ Found steps n
             → TrueRoute world (take n (cond {A = Searched} b (withWork w straight) (withWork (end .state .work) around) .out))
@@ -112,20 +112,14 @@ module _ (s : ℕ) (vs ps question : List ℕ) (some : 0 < s) (few : s ≤ 16) (
 
 -- ---- the promise
 
-module _ (s : ℕ) (vs ps question : List ℕ) (some : 0 < s) (few : s ≤ 16) (bytes : Bytes ps) (budget : ℕ) (w : Work) (out : List ℕ) where
-  abbrev searched : Searched
-  searched = searchOf s vs ps question budget w out
-
-  -- Demand 3: "every route that our search finds and has room to write is accepted": whatever floor, question, places, budget and output there are, where the search
-  -- answers 0 the judge answers 0 on just the bytes that it wrote.
-  pub found-is-accepted : (steps n : ℕ) → searched .answer ≡ Found steps n → verdictOf s vs ps question (take n (searched .out)) ≡ Read Accepted
-  unfolding searchOf verdictOf
-  found-is-accepted steps n = go (lookOf s vs ps question) refl
-    where
-      go : (look : Look) → lookOf s vs ps question ≡ look → ifInside look w out (λ p goal. betweenOf s (floorOf s vs ps) (questionOf question) p goal budget w out) .answer ≡ Found steps n
-          → judgeIf look (λ from to. judgeOf (worldIn (floorOf s vs ps) (questionOf question) from to) (take n (ifInside look w out (λ p goal. betweenOf s (floorOf s vs ps) (questionOf question) p goal budget w out) .out))) ≡ Read Accepted
-      go (Inside from to) l e =
-          ap Read
-          (accepted-exactly (lawful s vs ps bytes (questionOf question) from to) _ .1
-          (between-is-true s vs ps question some few from to (inside-tells s vs ps question from to l) w budget out steps n e))
-      go (Refused r) l e = let z : _≡_ {A = ℕ} 0 1 = cc in absurd (omega arith)
+pub found-is-accepted : (s : ℕ) (vs ps question : List ℕ) (budget : ℕ) (w : Work) → FoundIsAccepted s vs ps question budget w
+unfolding searchOf verdictOf
+found-is-accepted s vs ps question budget w some few bytes out steps n = go (lookOf s vs ps question) refl
+  where
+    go : (look : Look) → lookOf s vs ps question ≡ look → ifInside look w out (λ p goal. betweenOf s (floorOf s vs ps) (questionOf question) p goal budget w out) .answer ≡ Found steps n
+        → judgeIf look (λ from to. judgeOf (worldIn (floorOf s vs ps) (questionOf question) from to) (take n (ifInside look w out (λ p goal. betweenOf s (floorOf s vs ps) (questionOf question) p goal budget w out) .out))) ≡ Read Accepted
+    go (Inside from to) l e =
+        ap Read
+        (accepted-exactly (lawful s vs ps bytes (questionOf question) from to) _ .1
+        (between-is-true s vs ps question some few from to (inside-tells s vs ps question from to l) w budget out steps n e))
+    go (Refused r) l e = let z : _≡_ {A = ℕ} 0 1 = cc in absurd (omega arith)

@@ -1,5 +1,5 @@
 -- A push or a removal: place i's own word changes, and with the path above it repaired the words are the tree again, of the set that is meant. All words are
--- right but the one that is repaired next, and where that one stays what it was all are right. Assumes nothing.
+-- right but the one that is repaired next, and where that one stays what it was all are right. So the climb of the code comes to `queueOf`. Assumes nothing.
 use Prim.Native.Nat.{ℕ, zero, suc, _+_, _*_, _/_, _≤_, _<_}
 use native.Mathlib.Omega.{arith}
 use native.Mathlib.Decide.{ℕ-discrete}
@@ -10,19 +10,15 @@ use mathlib.Core.List.{List, _++_}
 use borrow.Author.Tests.{eq-eqb, ne-eqb, eqb-true}
 use lib.Dec.{eqb}
 use lib.ListN.{length, getD, set, drop, length-set}
-use lib.Seq.{getD-set-same, getD-set-other, set-getD, drop-set-lt, drop-at}
+use lib.Seq.{getD-set-same, getD-set-other, set-getD, drop-set-lt}
 use lib.Ieee.{Float}
-use Rattle.queue.specs.Queue.{none, better, ownOf, put, Tree, treeWords}
-use Rattle.queue.specs.Words.{queuedIn, repaired, stays, climbed, placed}
-use Rattle.queue.proofs.Words.{words-length, tree-is, is-tree, tree-same}
+use Rattle.queue.specs.Queue.{better, ownOf, put, Tree, treeWords}
+use Rattle.queue.specs.Words.{queueOf}
+use Rattle.queue.specs.Climb.{repaired, stays, Except, climbed, pathRepaired}
+use Rattle.queue.proofs.Words.{tree-is}
+use Rattle.queue.proofs.Queued.{put-same, put-other}
 
 -- ---- right but for one word
-
-pub record Except (f : ℕ → Float) (n : ℕ) (q : ℕ → Bool) (t : List ℕ) (p : ℕ) : Type 0 where
-  pub size : 2 * n ≤ length t
-  pub unused : 0 < n → getD t 0 0 ≡ none
-  pub own : (i : ℕ) → i < n → getD t (n + i) 0 ≡ ownOf i (q i)
-  pub inner : (k : ℕ) → 0 < k → k < n → (k ≡ p) ⊎ (getD t k 0 ≡ better f n (getD t (2 * k) 0) (getD t (2 * k + 1) 0))
 
 -- a store leaves the other words
 other : (t : List ℕ) (m w k : ℕ) → (k ≡ m → ⊥) → getD (set t m w) k 0 ≡ getD t k 0
@@ -148,19 +144,6 @@ pub repaired-length : (f : ℕ → Float) (n k : ℕ) (t : List ℕ) → length 
 unfolding repaired
 repaired-length f n k t = length-set t k (better f n (getD t (2 * k) 0) (getD t (2 * k + 1) 0))
 
-climbed-length : (f : ℕ → Float) (n d k : ℕ) (t : List ℕ) → length (climbed f n d k t) ≡ length t
-unfolding climbed
-climbed-length f n zero k t = refl
-climbed-length f n (suc d) k t = go (eqb k 0) (stays f n k t) (climbed-length f n d (k / 2) (repaired f n k t) ∙ repaired-length f n k t)
-  where
-    after : List ℕ
-    after = repaired f n k t
-
-    go : (s u : Bool) → length (climbed f n d (k / 2) after) ≡ length t → length (cond s t (cond u after (climbed f n d (k / 2) after))) ≡ length t
-    go true u h = refl
-    go false true h = repaired-length f n k t
-    go false false h = h
-
 climbed-rest : (f : ℕ → Float) (n d k : ℕ) (t : List ℕ) → k < n → drop (2 * n) (climbed f n d k t) ≡ drop (2 * n) t
 unfolding climbed repaired
 climbed-rest f n zero k t l = refl
@@ -208,80 +191,21 @@ climb-end f n t = refl
 
 -- ---- a push and a removal
 
-pub put-same : (q : ℕ → Bool) (i : ℕ) (b : Bool) → put q i b i ≡ b
-unfolding put
-put-same q i b = rw (eq-eqb i i refl)
-
-pub put-other : (q : ℕ → Bool) (i : ℕ) (b : Bool) (j : ℕ) → (j ≡ i → ⊥) → put q i b j ≡ q j
-unfolding put
-put-other q i b j d = rw (ne-eqb j i d)
-
-placed-rest : (f : ℕ → Float) (n i : ℕ) (b : Bool) (t : List ℕ) → i < n → drop (2 * n) (placed f n i b t) ≡ drop (2 * n) t
-unfolding placed
-placed-rest f n i b t l =
+path-rest : (f : ℕ → Float) (n i : ℕ) (b : Bool) (t : List ℕ) → i < n → drop (2 * n) (pathRepaired f n i b t) ≡ drop (2 * n) t
+unfolding pathRepaired
+path-rest f n i b t l =
     climbed-rest f n ((n + i) / 2) ((n + i) / 2) (set t (n + i) (ownOf i b)) (omega arith) ∙ drop-set-lt (2 * n) t (n + i) (ownOf i b) (omega arith)
 
 module _ (f : ℕ → Float) (n : ℕ) (q : ℕ → Bool) (i : ℕ) (l : i < n) (b : Bool) where
-  pub placed-tree : (t : List ℕ) → Tree f n q t → Tree f n (put q i b) (placed f n i b t)
-  unfolding placed
-  placed-tree t e =
+  -- the tree of the one set becomes that of the other,
+  pub path-tree : (t : List ℕ) → Tree f n q t → Tree f n (put q i b) (pathRepaired f n i b t)
+  unfolding pathRepaired
+  path-tree t e =
       climbs f n (put q i b) ((n + i) / 2) ((n + i) / 2) (set t (n + i) (ownOf i b)) (omega arith) (omega arith)
       (starts f n q (put q i b) i (ownOf i b) t l (ap (ownOf i) (sym (put-same q i b))) (λ j h d. ap (ownOf j) (sym (put-other q i b j d))) e)
 
-  -- the same as equations: the words of the one set become those of the other, and what stands after them stays
-  pub placed-words : (t : List ℕ) → Tree f n q t → placed f n i b t ≡ treeWords f n (put q i b) ++ drop (2 * n) t
-  placed-words t e =
-      tree-is f n (put q i b) (placed f n i b t) (placed-tree t e) ∙ ap (λ (s : List ℕ). treeWords f n (put q i b) ++ s) (placed-rest f n i b t l)
-
-  pub placed-front : (r : List ℕ) → placed f n i b (treeWords f n q ++ r) ≡ treeWords f n (put q i b) ++ r
-  placed-front r =
-      placed-words (treeWords f n q ++ r) (is-tree f n q r)
-      ∙ ap (λ (s : List ℕ). treeWords f n (put q i b) ++ s) (drop-at (treeWords f n q) r (2 * n) (words-length f n q))
-
-pub placed-length : (f : ℕ → Float) (n i : ℕ) (b : Bool) (t : List ℕ) → length (placed f n i b t) ≡ length t
-unfolding placed
-placed-length f n i b t = climbed-length f n ((n + i) / 2) ((n + i) / 2) (set t (n + i) (ownOf i b)) ∙ length-set t (n + i) (ownOf i b)
-
--- ---- which places are queued, read off the words
-
-own-read : (i : ℕ) (b : Bool) → i < none → eqb (ownOf i b) i ≡ b
-unfolding ownOf
-own-read i true l = eq-eqb i i refl
-own-read i false l = ne-eqb none i (λ e. omega arith)
-
--- the set is in the words
-pub queued-is : (f : ℕ → Float) (n : ℕ) (q : ℕ → Bool) (t : List ℕ) → n ≤ none → Tree f n q t → (i : ℕ) → i < n → queuedIn n t i ≡ q i
-unfolding queuedIn
-queued-is f n q t few e i l = rw (e .own i l) (own-read i (q i) (omega arith))
-
--- so the words are the tree of the set that they say
-pub tree-of-own : (f : ℕ → Float) (n : ℕ) (q : ℕ → Bool) (t : List ℕ) → n ≤ none → Tree f n q t → Tree f n (queuedIn n t) t
-tree-of-own f n q t few e = tree-same f f n q (queuedIn n t) few (λ i l. sym (queued-is f n q t few e i l)) (λ i l h. refl) t e
-
--- no leaf stands on a path
-climbed-own : (f : ℕ → Float) (n d k : ℕ) (t : List ℕ) → k < n → (m : ℕ) → n ≤ m → getD (climbed f n d k t) m 0 ≡ getD t m 0
-unfolding climbed repaired
-climbed-own f n zero k t l m h = refl
-climbed-own f n (suc d) k t l m h = go (eqb k 0) (stays f n k t) (climbed-own f n d (k / 2) (repaired f n k t) (omega arith) m h)
-  where
-    after : List ℕ
-    after = repaired f n k t
-
-    one : getD after m 0 ≡ getD t m 0
-    one = other t k (better f n (getD t (2 * k) 0) (getD t (2 * k + 1) 0)) m (λ e. omega arith)
-
-    go : (s u : Bool) → getD (climbed f n d (k / 2) after) m 0 ≡ getD after m 0 → getD (cond s t (cond u after (climbed f n d (k / 2) after))) m 0 ≡ getD t m 0
-    go true u r = refl
-    go false true r = one
-    go false false r = r ∙ one
-
--- whatever the words were, place i's queuing is what was put, and the other places' is as it was
-pub placed-queued : (f : ℕ → Float) (n i : ℕ) (b : Bool) (t : List ℕ) → n ≤ none → 2 * n ≤ length t → i < n → (j : ℕ) → j < n
-    → queuedIn n (placed f n i b t) j ≡ put (queuedIn n t) i b j
-unfolding queuedIn placed
-placed-queued f n i b t few s l j h = rw (climbed-own f n ((n + i) / 2) ((n + i) / 2) (set t (n + i) (ownOf i b)) (omega arith) (n + j) (omega arith)) (go (ℕ-discrete j i))
-  where
-    go : Dec (j ≡ i) → eqb (getD (set t (n + i) (ownOf i b)) (n + j) 0) j ≡ put (queuedIn n t) i b j
-    go (yes e) =
-        rw e (rw (getD-set-same t (n + i) (ownOf i b) 0 (omega arith), put-same (queuedIn n t) i b) (own-read i b (omega arith)))
-    go (no e) = rw (other t (n + i) (ownOf i b) (n + j) (λ g. e (omega arith))) (sym (put-other (queuedIn n t) i b j e))
+  -- and what stands behind it stays
+  pub path-words : (t : List ℕ) → Tree f n q t → pathRepaired f n i b t ≡ queueOf f n (put q i b) t
+  unfolding queueOf
+  path-words t e =
+      tree-is f n (put q i b) (pathRepaired f n i b t) (path-tree t e) ∙ ap (λ (s : List ℕ). treeWords f n (put q i b) ++ s) (path-rest f n i b t l)

@@ -1,12 +1,12 @@
--- The queue's words and the floats as they are lent, and what a push or a removal does to the words: one leaf, and the path above it. Definitions only.
+-- The queue's words and the floats as they are lent: which places the words say are queued, and the words of a queue with given places in it. Definitions only.
 -- Assumes nothing.
-use Prim.Native.Nat.{ℕ, zero, suc, _+_, _*_, _/_, _≤_, _<_}
-use mathlib.Core.Bool.{Bool, cond}
+use Prim.Native.Nat.{ℕ, _+_, _*_, _≤_, _<_}
+use mathlib.Core.Bool.{Bool}
 use mathlib.Core.List.{List, _++_}
 use lib.Dec.{eqb}
-use lib.ListN.{length, getD, set, drop, replicate}
+use lib.ListN.{length, getD, drop, replicate}
 use lib.Ieee.{Float, nan}
-use Rattle.queue.specs.Queue.{none, better, ownOf}
+use Rattle.queue.specs.Queue.{none, treeWords}
 
 -- ---- what is lent
 
@@ -32,24 +32,6 @@ queuedIn n t i = eqb (getD t (n + i) 0) i
 unfoldable pub cleared : ℕ → List ℕ → List ℕ
 cleared m t = replicate m none ++ drop m t
 
--- ---- one path
-
--- word k as the better of its two
-unfoldable pub repaired : (ℕ → Float) → ℕ → ℕ → List ℕ → List ℕ
-repaired f n k t = set t k (better f n (getD t (2 * k) 0) (getD t (2 * k + 1) 0))
-
--- whether the repair leaves word k what it was
-abbrev pub stays : (ℕ → Float) → ℕ → ℕ → List ℕ → Bool
-stays f n k t = eqb (getD (repaired f n k t) k 0) (getD t k 0)
-
--- word k repaired, then the one above it, up to word 1 or to a word that stays what it was: d of them at most
-unfoldable pub climbed : (ℕ → Float) → ℕ → ℕ → ℕ → List ℕ → List ℕ
-climbed f n zero k t = t
-climbed f n (suc d) k t =
-    let after = repaired f n k t in
-    let above = climbed f n d (k / 2) after in
-    cond (eqb k 0) t (cond (stays f n k t) after above)
-
--- place i's own word says whether it is queued, and the path above it is repaired
-unfoldable pub placed : (ℕ → Float) → ℕ → ℕ → Bool → List ℕ → List ℕ
-placed f n i b t = climbed f n ((n + i) / 2) ((n + i) / 2) (set t (n + i) (ownOf i b))
+-- the words with these places queued and no others: the first 2n are the tree's, and those behind stay
+unfoldable pub queueOf : (ℕ → Float) → ℕ → (ℕ → Bool) → List ℕ → List ℕ
+queueOf f n q t = treeWords f n q ++ drop (2 * n) t

@@ -8,7 +8,8 @@ ghost use Prim.Native.Nat.{ℕ, _+_, _*_, _≤_, _<_, max};
 ghost use lib.Ieee.{Float};
 ghost use lib.ListN.{length, getD};
 ghost use Rattle.queue.specs.Queue.{none, before, loneOf, better, ownOf, put, leastOf, NoNan, Empty, Tree};
-ghost use Rattle.queue.specs.Words.{column, Rows, Room, cleared, repaired, stays, climbed, placed};
+ghost use Rattle.queue.specs.Words.{column, Rows, Room, queuedIn, cleared, queueOf};
+ghost use Rattle.queue.specs.Climb.{repaired, stays, climbed, pathRepaired};
 
 // The word that stands for no place.
 pub const NONE: u32 = 0xFFFF_FFFF;
@@ -111,30 +112,36 @@ fn place(tree: &mut [u32], fs: &[f32], stride: usize, at: usize, n: usize, i: us
     requires { ⌜ Rows n stride at (now fs) ⌝ }
     requires { ⌜ Room n (now tree) ⌝ }
     requires { ⌜ i < n ⌝ }
-    ensures { λ _. ⌜ now (tree .exit) ≡ placed (column (now (fs .entry)) stride at) n i queued (now (tree .entry)) ⌝ }
+    ensures { λ _. ⌜ now (tree .exit) ≡ pathRepaired (column (now (fs .entry)) stride at) n i queued (now (tree .entry)) ⌝ }
 {
     tree[n + i] = own(i, queued);
     climb(tree, fs, stride, at, n, (n + i) / 2);
 }
 
-// Queues place i.
+// Queues place i. The words are the tree of the places that they say are queued; then they are that of these and i.
 pub fn push(tree: &mut [u32], fs: &[f32], stride: usize, at: usize, n: usize, i: usize)
     requires { ⌜ Rows n stride at (now fs) ⌝ }
     requires { ⌜ Room n (now tree) ⌝ }
     requires { ⌜ i < n ⌝ }
-    ensures words { λ _. ⌜ now (tree .exit) ≡ placed (column (now (fs .entry)) stride at) n i true (now (tree .entry)) ⌝ }
-    ensures queue { λ _. ⌜ ((q : ℕ → Bool) → Tree (column (now (fs .entry)) stride at) n q (now (tree .entry)) → Tree (column (now (fs .entry)) stride at) n (put q i true) (now (tree .exit))) ⌝ }
+    requires { ⌜ Tree (column (now fs) stride at) n (queuedIn n (now tree)) (now tree) ⌝ }
+    ensures { λ _.
+        let f = column (now (fs .entry)) stride at in
+        let queued = queuedIn n (now (tree .entry)) in
+        ⌜ now (tree .exit) ≡ queueOf f n (put queued i true) (now (tree .entry)) ⌝ }
 {
     place(tree, fs, stride, at, n, i, true);
 }
 
-// Takes place i out of the queue.
+// Takes place i out of the queue, likewise.
 pub fn remove(tree: &mut [u32], fs: &[f32], stride: usize, at: usize, n: usize, i: usize)
     requires { ⌜ Rows n stride at (now fs) ⌝ }
     requires { ⌜ Room n (now tree) ⌝ }
     requires { ⌜ i < n ⌝ }
-    ensures words { λ _. ⌜ now (tree .exit) ≡ placed (column (now (fs .entry)) stride at) n i false (now (tree .entry)) ⌝ }
-    ensures queue { λ _. ⌜ ((q : ℕ → Bool) → Tree (column (now (fs .entry)) stride at) n q (now (tree .entry)) → Tree (column (now (fs .entry)) stride at) n (put q i false) (now (tree .exit))) ⌝ }
+    requires { ⌜ Tree (column (now fs) stride at) n (queuedIn n (now tree)) (now tree) ⌝ }
+    ensures { λ _.
+        let f = column (now (fs .entry)) stride at in
+        let queued = queuedIn n (now (tree .entry)) in
+        ⌜ now (tree .exit) ≡ queueOf f n (put queued i false) (now (tree .entry)) ⌝ }
 {
     place(tree, fs, stride, at, n, i, false);
 }

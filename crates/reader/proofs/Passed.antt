@@ -19,8 +19,7 @@ use Rattle.route.proofs.Find.{other-of}
 use Rattle.records.specs.declared.Record.{Record}
 use Rattle.records.specs.Records.{recordBytes, seedRecord}
 use Rattle.records.proofs.Stored.{seed-tested}
-use Rattle.reader.specs.declared.Reader.{Reader}
-use Rattle.reader.specs.Reading.{isRecord, recordsFrom, numberAfter, firstOf, nextOf}
+use Rattle.reader.specs.Reading.{isRecord, recordsFrom, numberAfter, passed}
 
 -- ---- behind the last record
 
@@ -55,11 +54,6 @@ some-left file i h none = omega arith
 none-left : (file : List ℕ) → recordsFrom file (records file) ≡ 0
 unfolding recordsFrom
 none-left file = omega arith
-
--- the reader of a file after so many records
-pub passed : RefT (List ℕ) → ℕ → Reader
-passed route zero = firstOf route
-passed route (suc k) = nextOf (passed route k)
 
 -- up to the last record each step leads to the one after, so that none is left out and none comes twice
 pub stands-at-each : (route : RefT (List ℕ)) (k : ℕ) → k ≤ records (now route) → passed route k ≡ record { route = route; number = k }

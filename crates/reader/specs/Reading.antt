@@ -1,6 +1,6 @@
 -- Document 01, "The route file": "A reader walks the caller's route bytes one record at a time." What it sees at a record and where it goes from there.
 -- Rests on the records of `route`. Definitions only. Assumes nothing.
-use Prim.Native.Nat.{ℕ, _+_, _-_}
+use Prim.Native.Nat.{ℕ, zero, suc, _+_, _-_}
 use mathlib.Core.Bool.{Bool, cond}
 use mathlib.Core.List.{List}
 use lib.Dec.{eqb}
@@ -34,3 +34,8 @@ firstOf route = record { route = route; number = 0 }
 -- the reader of the same file at the next record
 abbrev pub nextOf : Reader → Reader
 nextOf r = record { route = r .route; number = numberAfter (now (r .route)) (r .number) }
+
+-- the reader of a file after so many records
+unfoldable pub passed : RefT (List ℕ) → ℕ → Reader
+passed route zero = firstOf route
+passed route (suc k) = nextOf (passed route k)

@@ -13,11 +13,10 @@ use Rattle.point.specs.Point.{sameOf}
 use Rattle.stored.specs.Stored.{Floor, floorOf}
 use Rattle.route.specs.declared.Step.{Step}
 use Rattle.route.specs.declared.Sought.the-variants.{Found}
-use Rattle.route.specs.declared.Judged.{Judged}
-use Rattle.route.specs.declared.Judged.the-variants.{Accepted, Length, NotSeed, NotStep}
+use Rattle.route.specs.declared.Judged.the-variants.{Accepted, NotStep}
 use Rattle.route.specs.World.{World}
 use Rattle.route.specs.Record.{recordAt, records, seedBytes}
-use Rattle.route.specs.Judge.{lengthRight, sameBytes, findStep, judgeOf, judgedNumber}
+use Rattle.route.specs.Judge.{lengthRight, sameBytes, findStep, judgeOf}
 use Rattle.route.proofs.Turns.{length-gives, begins-length, begins-wrong}
 use Rattle.steps.specs.declared.Node.{Node}
 use Rattle.steps.specs.Steps.{stepsFrom, seedNode, enter}
@@ -31,29 +30,22 @@ use Rattle.judge.proofs.Following.{seed-points, Follows, follows-on}
 
 -- ---- accepted: the length is right, and record 0 is the seed
 
-not-accepted : (j k : Judged) → j ≡ Accepted → j ≡ k → judgedNumber k ≡ 0
-unfolding judgedNumber
-not-accepted j k e d = ap judgedNumber (sym d ∙ e)
-
 pub accepted-length : {Node : Type 0} (w : World Node) (file : List ℕ) → judgeOf w file ≡ Accepted → lengthRight file ≡ true
-unfolding judgedNumber
 accepted-length w file e = go (lengthRight file) refl
   where
     go : (b : Bool) → lengthRight file ≡ b → b ≡ true
     go true h = refl
-    go false h = let z : _≡_ {A = ℕ} 20 0 = not-accepted (judgeOf w file) Length e (begins-length w file h) in absurd (omega arith)
+    go false h = let z : _≡_ {A = ℕ} 0 1 = cc (begins-length w file h) in absurd (omega arith)
 
 pub accepted-seed : {Node : Type 0} (w : World Node) (file : List ℕ) → judgeOf w file ≡ Accepted → sameBytes (recordAt file 0) (w .seedBytes) ≡ true
-unfolding judgedNumber
 accepted-seed w file e = go (sameBytes (recordAt file 0) (w .seedBytes)) refl
   where
     go : (b : Bool) → sameBytes (recordAt file 0) (w .seedBytes) ≡ b → b ≡ true
     go true h = refl
-    go false h = let z : _≡_ {A = ℕ} 21 0 = not-accepted (judgeOf w file) NotSeed e (begins-wrong w file (accepted-length w file e) h) in absurd (omega arith)
+    go false h = let z : _≡_ {A = ℕ} 0 1 = cc (begins-wrong w file (accepted-length w file e) h) in absurd (omega arith)
 
 pub accepted-stops-not : {Node : Type 0} (w : World Node) (file : List ℕ) (i : ℕ) → judgeOf w file ≡ Accepted → judgeOf w file ≡ NotStep i → ⊥
-unfolding judgedNumber
-accepted-stops-not w file i e d = let z : _≡_ {A = ℕ} 22 0 = not-accepted (judgeOf w file) (NotStep i) e d in omega arith
+accepted-stops-not w file i e d = let z : _≡_ {A = ℕ} 0 1 = cc in omega arith
 
 -- ---- one step of the chain
 

@@ -1,6 +1,6 @@
 -- 01's sentence on points and length, and the end record: it carries the number of the points, and their f32 sum in order from 0.0. Rests on the count (proofs/Ended), on legs
 -- from equal roots (proofs/Legs) and on the exact cases (judge, proofs/Exact). Assumes nothing.
-use Prim.Native.Nat.{ℕ, zero, suc, _+_, _-_, _/_}
+use Prim.Native.Nat.{ℕ, zero, suc, _+_, _-_}
 use mathlib.Core.Path.{_≡_, refl, sym, ap, ap₂, _∙_}
 use mathlib.Core.Bool.{Bool, true, false, cond}
 use mathlib.Core.List.{List, [], _∷_}
@@ -16,7 +16,7 @@ use Rattle.point.specs.Point.{pointOf, fromBitsOf, sameOf, plusOf, distanceOf}
 use Rattle.helpers.specs.Helpers.{turningPointOf}
 use Rattle.cut.specs.declared.SuccessorType.{SuccessorType}
 use Rattle.cut.specs.declared.SuccessorType.the-variants.{LeftNonObservable, Observable, RightNonObservable}
-use Rattle.stored.specs.Stored.{Floor, floorOf, questionOf, vertex}
+use Rattle.stored.specs.Stored.{vertexIn, Floor, floorOf, questionOf, vertex}
 use Rattle.edges.specs.Where.{polygonOf}
 use Rattle.route.specs.declared.Step.{Step}
 use Rattle.route.specs.declared.Sought.{Sought}
@@ -31,7 +31,7 @@ use Rattle.steps.specs.declared.Node.{Node}
 use Rattle.steps.specs.Steps.{rootAfter, stepsFrom, seedNode, enter}
 use Rattle.steps.specs.World.{lastLeg, endingOf, worldIn, worldOf}
 use Rattle.judge.specs.Verdict.{asked}
-use Rattle.readout.specs.Points.{onto, chainFrom, chainOf, goingRound, lastPoints, pointsAlong, pointsOf, lengthFrom, lengthOf}
+use Rattle.readout.specs.Points.{onto, chainFrom, chainOf, goingRound, lastPoints, pointsAlong, pointsOf, lengthFrom, lengthOf, EndCarries}
 use Rattle.readout.proofs.Chained.{along-end, along-kept, along-more}
 use Rattle.readout.proofs.Ended.{lastOf, end-bytes-of, route-count}
 use Rattle.readout.proofs.Legs.{same-sum}
@@ -40,7 +40,7 @@ use Rattle.judge.proofs.Exact.{world-is-lawful}
 -- ---- roots are f32
 
 vertex-held : (f : Floor) (v : ℕ) → HeldPoint (vertex f v)
-unfolding vertex plusOf
+unfolding vertexIn plusOf
 vertex-held f v = record { x-held = add-fits binary32 _ _; y-held = add-fits binary32 _ _ }
 
 root-held : (f : Floor) (node : Node) (t : Step) → HeldPoint (node .root) → HeldPoint (enter f node t .root)
@@ -136,11 +136,7 @@ start-held question = point-held _ _
 
 -- Of an accepted file the last record carries the number of the route's points and their length.
 pub end-carries : (s : ℕ) (vs ps question file : List ℕ) → judgeOf (worldOf (floorOf s vs ps) (questionOf question)) file ≡ Accepted
-    → recordAt file (length file / 32 - 1)
-    ≡ endBytes
-    (length (pointsOf (worldOf (floorOf s vs ps) (questionOf question)) (questionOf question .goal) file))
-    (questionOf question .goal)
-    (lengthOf (questionOf question .start) (pointsOf (worldOf (floorOf s vs ps) (questionOf question)) (questionOf question .goal) file))
+    → EndCarries (questionOf question) (pointsOf (worldOf (floorOf s vs ps) (questionOf question)) (questionOf question .goal) file) file
 unfolding worldOf
 end-carries s vs ps question file e =
     let f = floorOf s vs ps in
@@ -152,9 +148,5 @@ end-carries s vs ps question file e =
 
 -- the same of a true route
 pub route-carries : (s : ℕ) (vs ps question file : List ℕ) → Bytes ps → TrueRoute (worldOf (floorOf s vs ps) (questionOf question)) file
-    → recordAt file (length file / 32 - 1)
-    ≡ endBytes
-    (length (pointsOf (worldOf (floorOf s vs ps) (questionOf question)) (questionOf question .goal) file))
-    (questionOf question .goal)
-    (lengthOf (questionOf question .start) (pointsOf (worldOf (floorOf s vs ps) (questionOf question)) (questionOf question .goal) file))
+    → EndCarries (questionOf question) (pointsOf (worldOf (floorOf s vs ps) (questionOf question)) (questionOf question .goal) file) file
 route-carries s vs ps question file bytes r = end-carries s vs ps question file (accepted-exactly (world-is-lawful s vs ps question bytes) file .1 r)

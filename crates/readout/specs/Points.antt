@@ -1,9 +1,11 @@
 -- Document 01, "Points: the new root at each place of the parent chain, oldest first, where the root changed by !=; then turning_point if any; then the goal. With no step in
 -- the chain the goal is the only point. Length is the f32 sum in that order from 0.0." Definitions only. Assumes nothing.
-use Prim.Native.Nat.{ℕ, zero, suc, _+_, _-_}
+use Prim.Native.Nat.{ℕ, zero, suc, _+_, _-_, _/_}
+use mathlib.Core.Path.{_≡_}
 use mathlib.Core.Bool.{cond}
 use mathlib.Core.List.{List, [], _∷_}
 use lib.Ieee.{Float, binary32, add}
+use lib.ListN.{length}
 use Rattle.point.specs.declared.Point.{Point}
 use Rattle.helpers.specs.declared.Turn.{Turn}
 use Rattle.helpers.specs.declared.Turn.the-variants.{Around, Straight}
@@ -12,7 +14,8 @@ use Rattle.helpers.specs.Helpers.{turningPointOf}
 use Rattle.route.specs.declared.Step.{Step}
 use Rattle.route.specs.declared.Sought.{Sought}
 use Rattle.route.specs.declared.Sought.the-variants.{Found, Missing}
-use Rattle.route.specs.Record.{recordAt, records}
+use Rattle.stored.specs.Stored.{Question}
+use Rattle.route.specs.Record.{recordAt, records, endBytes}
 use Rattle.route.specs.World.{World}
 use Rattle.route.specs.Judge.{findStep}
 use Rattle.steps.specs.declared.Node.{Node}
@@ -61,3 +64,9 @@ lengthFrom total at (point ∷ points) = lengthFrom (add binary32 total (distanc
 -- "the f32 sum in that order from 0.0"
 unfoldable pub lengthOf : Point → List Point → Float
 lengthOf start points = lengthFrom zeroFloat start points
+
+-- ---- the end record
+
+-- "End: 5, number of points, goal x, y, length": the last record of a file has the number of these points, and their length.
+abbrev pub EndCarries : Question → List Point → List ℕ → Type 0
+EndCarries q points file = recordAt file (length file / 32 - 1) ≡ endBytes (length points) (q .goal) (lengthOf (q .start) points)

@@ -7,6 +7,9 @@ use lib.Dec.{ltb}
 use lib.Ieee.{Float}
 use lib.ListN.{length, set}
 use lib.Seq.{sets}
+use Rattle.told.specs.declared.Told.{Told}
+use Rattle.told.specs.declared.Told.the-variants.{Alone, WithCount}
+use Rattle.told.specs.Told.{numberOf, valuesOf}
 use Rattle.point.specs.declared.Point.{Point}
 use Rattle.point.specs.Point.{sameOf}
 use Rattle.stored.specs.Stored.{floorOf, questionOf}
@@ -17,7 +20,7 @@ use Rattle.judge.specs.declared.Verdict.{Verdict}
 use Rattle.judge.specs.declared.Verdict.the-variants.{Refused, Read}
 use Rattle.readout.specs.declared.Readout.{Readout}
 use Rattle.readout.specs.declared.Readout.the-variants.{Refused as Unread, Short, Listed}
-use Rattle.judge.specs.Verdict.{verdictOf, verdictNumber, verdictRecord}
+use Rattle.judge.specs.Verdict.{verdictOf, verdictTold}
 use Rattle.readout.specs.Points.{pointsOf}
 
 -- ---- points in a slice: x, y of each
@@ -70,15 +73,18 @@ module _ (slots : ℕ) (vertices polygons question route : List ℕ) (out : List
   unfoldable pub writtenOf : List Float
   writtenOf = outIf (verdictOf slots vertices polygons question route) routePoints out
 
--- ---- document 01's number and values of each answer
+-- ---- what is told of each answer: the table's number, and "the read-out returns on 0 the number of points"
 
-unfoldable pub readoutNumber : Readout → ℕ
-readoutNumber (Unread verdict) = verdictNumber verdict
-readoutNumber Short = 13
-readoutNumber (Listed count) = 0
+unfoldable pub readoutTold : Readout → Told
+readoutTold (Unread verdict) = verdictTold verdict
+-- "output too short"
+readoutTold Short = Alone 13
+-- "found, or accepted"
+readoutTold (Listed count) = WithCount 0 count
 
--- the record at fault, or "on 0 the number of points"
-unfoldable pub readoutValues : Readout → List ℕ
-readoutValues (Unread verdict) = verdictRecord verdict
-readoutValues Short = []
-readoutValues (Listed count) = count ∷ []
+abbrev pub readoutNumber : Readout → ℕ
+readoutNumber readout = numberOf (readoutTold readout)
+
+-- the record at fault, or the number of points
+abbrev pub readoutValues : Readout → List ℕ
+readoutValues readout = valuesOf (readoutTold readout)

@@ -16,7 +16,7 @@ ghost use Rattle.judge.specs.declared.Verdict.the-variants.{Read};
 ghost use Rattle.judge.specs.Ready.{Ready};
 ghost use Rattle.judge.specs.Verdict.{asked};
 ghost use Rattle.readout.specs.Points.{lastPoints, pointsOf};
-ghost use Rattle.readout.specs.Readout.{floatsOf, putPoint, putRoot, listed, listing, answerIf, outIf, readoutOf, writtenOf, readoutNumber};
+ghost use Rattle.readout.specs.Readout.{floatsOf, putPoint, putRoot, listed, listing, answerIf, outIf, readoutOf, writtenOf, readoutTold};
 use floor::Look;
 use floor::SLOTS;
 use helpers::Turn;
@@ -26,6 +26,7 @@ use point::Point;
 use records::Record;
 use route::Judged;
 use steps::Node;
+use told::Told;
 
 // What a read-out answers.
 pub enum Readout {
@@ -253,14 +254,14 @@ pub fn read_out(
 }
 
 impl Readout {
-    // Document 01's number of an answer.
-    pub fn number(self) -> u32
-        ensures { λ r. ⌜ r ≡ readoutNumber self ⌝ }
+    // The number in document 01's table, and the record at fault or how many points are listed.
+    pub fn told(self) -> Told
+        ensures { λ r. ⌜ r ≡ readoutTold self ⌝ }
     {
         match self {
-            Readout::Refused(verdict) => verdict.number(),
-            Readout::Short => 13,
-            Readout::Listed(_) => 0,
+            Readout::Refused(verdict) => verdict.told(),
+            Readout::Short => Told::Alone(13),
+            Readout::Listed(count) => Told::WithCount(0, count),
         }
     }
 }

@@ -9,6 +9,7 @@ use lib.Ieee.{binary32, ofBits, toBits}
 use lib.Ieee.Bits.{ofBits-fits}
 use Rattle.float.proofs.Tests.{untrue}
 use Rattle.word.specs.Word.{bytesOf}
+use Rattle.told.specs.declared.Told.the-variants.{AtRecord}
 use Rattle.point.specs.declared.Point.{Point}
 use Rattle.cut.specs.declared.SuccessorType.the-variants.{Observable}
 use Rattle.route.specs.declared.Step.{Step}
@@ -16,7 +17,7 @@ use Rattle.route.specs.declared.Judged.the-variants.{Accepted, Length, N
 use Rattle.route.specs.Step.{kindNumber, HeldPoint, Held}
 use Rattle.route.specs.Record.{records, recordAt, wordsBytes, seedWords, stepWords, endWords, seedBytes, stepBytes, endBytes}
 use Rattle.route.specs.World.{World, _∈_, Lawful, seeded, stepped, TrueRoute}
-use Rattle.route.specs.Judge.{sameBytes, lengthRight, findStep, onwards, judgeEnd, judgeFrom, judgeOf, judgedNumber}
+use Rattle.route.specs.Judge.{sameBytes, lengthRight, findStep, onwards, judgeEnd, judgeFrom, judgeOf, judgedTold}
 use Rattle.route.proofs.Bytes.{seed-is-32, end-is-32}
 use Rattle.route.proofs.Verdicts.{accepted-exactly}
 
@@ -121,6 +122,6 @@ others :
     × (judgeOf small (seed-record ++ end-record) ≡ NotEnd 1)
     × (judgeOf small (seed-record ++ step-record) ≡ NotEnd 1)
     × (judgeOf small (seed-record ++ step-record ++ seed-record) ≡ NotEnd 2)
-    × (judgedNumber (NotEnd 2) ≡ 23)
-unfolding judgeOf judgeFrom judgeEnd judgedNumber lengthRight records recordAt sameBytes findStep onwards small stepsOut only point seed-record step-record end-record seedBytes seedWords stepBytes stepWords endBytes endWords wordsBytes bytesOf kindNumber toBits ofBits
+    × (judgedTold (NotEnd 2) ≡ AtRecord 23 2)
+unfolding judgeOf judgeFrom judgeEnd judgedTold lengthRight records recordAt sameBytes findStep onwards small stepsOut only point seed-record step-record end-record seedBytes seedWords stepBytes stepWords endBytes endWords wordsBytes bytesOf kindNumber toBits ofBits
 others = (refl, refl, refl, refl, refl, refl)

@@ -4,6 +4,8 @@ use mathlib.Core.Bool.{Bool, true, false, _&&_, cond}
 use mathlib.Core.List.{List, [], _∷_}
 use lib.Dec.{eqb, leb}
 use lib.ListN.{length}
+use Rattle.told.specs.declared.Told.{Told}
+use Rattle.told.specs.declared.Told.the-variants.{Alone, AtRecord}
 use Rattle.route.specs.declared.Step.{Step}
 use Rattle.route.specs.declared.Sought.{Sought}
 use Rattle.route.specs.declared.Sought.the-variants.{Found, Missing}
@@ -58,19 +60,16 @@ module _ {Node : Type 0} (w : World Node) (file : List ℕ) where
   unfoldable pub judgeOf : Judged
   judgeOf = cond (lengthRight file) (cond (sameBytes (recordAt file 0) (w .seedBytes)) (judgeFrom (w .seed) 1 (records file - 2)) NotSeed) Length
 
--- ---- document 01's number and values of each verdict
+-- ---- what is told: the table's number, and "21, 22, 23 also return the lowest record at fault, 23 always the last record"
 
-unfoldable pub judgedNumber : Judged → ℕ
-judgedNumber Accepted = 0
-judgedNumber Length = 20
-judgedNumber NotSeed = 21
-judgedNumber (NotStep i) = 22
-judgedNumber (NotEnd i) = 23
-
--- "21, 22, 23 also return the lowest record at fault, 23 always the last record"
-unfoldable pub judgedRecord : Judged → List ℕ
-judgedRecord Accepted = []
-judgedRecord Length = []
-judgedRecord NotSeed = 0 ∷ []
-judgedRecord (NotStep i) = i ∷ []
-judgedRecord (NotEnd i) = i ∷ []
+unfoldable pub judgedTold : Judged → Told
+-- "found, or accepted"
+judgedTold Accepted = Alone 0
+-- "route file not 32 × (2 to 4,097) bytes"
+judgedTold Length = Alone 20
+-- "first record is not the seed"
+judgedTold NotSeed = AtRecord 21 0
+-- "a middle record is not a permitted step"
+judgedTold (NotStep i) = AtRecord 22 i
+-- "last record is not the true end, or the one before it is not in the goal polygon"
+judgedTold (NotEnd i) = AtRecord 23 i

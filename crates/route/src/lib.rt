@@ -2,9 +2,10 @@
 
 ghost use mathlib.Core.Path.{_≡_};
 ghost use Rattle.route.specs.Step.{kindNumber};
-ghost use Rattle.route.specs.Judge.{judgedNumber};
+ghost use Rattle.route.specs.Judge.{judgedTold};
 use cut::SuccessorType;
 use point::Segment;
+use told::Told;
 
 // A step as the route file has it: how the interval is seen, the polygon that is entered, the two vertices of the edge as
 // the polygon that is left has it, and the interval from its right end to its left end.
@@ -48,16 +49,16 @@ pub fn kind_number(kind: SuccessorType) -> u32
 }
 
 impl Judged {
-    // Document 01's number of a verdict.
-    pub fn number(self) -> u32
-        ensures { λ r. ⌜ r ≡ judgedNumber self ⌝ }
+    // The number in document 01's table, and the record at fault where there is one.
+    pub fn told(self) -> Told
+        ensures { λ r. ⌜ r ≡ judgedTold self ⌝ }
     {
         match self {
-            Judged::Accepted => 0,
-            Judged::Length => 20,
-            Judged::NotSeed => 21,
-            Judged::NotStep(_) => 22,
-            Judged::NotEnd(_) => 23,
+            Judged::Accepted => Told::Alone(0),
+            Judged::Length => Told::Alone(20),
+            Judged::NotSeed => Told::AtRecord(21, 0),
+            Judged::NotStep(i) => Told::AtRecord(22, i),
+            Judged::NotEnd(i) => Told::AtRecord(23, i),
         }
     }
 }

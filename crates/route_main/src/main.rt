@@ -5,9 +5,8 @@
 
 ghost use mathlib.Core.Path.{_≡_};
 ghost use lib.ListN.{length};
-use floor::Refusal;
-use says::At;
 use search::Answer;
+use told::Told;
 
 fn main() {
     let mut vertices = console::room_for_vertices();
@@ -48,15 +47,12 @@ fn find(vertices: &mut [u8], polygons: &mut [u8], question: &mut [u8], out: &mut
     let p = console::read_file(b"floor.ply", polygons);
     let q = console::read_input(question);
     let answer = search_files(&vertices[..v], &polygons[..p], &question[..q], out);
-    match answer {
-        Answer::Found { steps: _, bytes } => write_route(out, bytes),
-        Answer::NotFound { steps: _ } => complain(answer.number()),
-        Answer::Refused(refusal) => complain_of(refusal),
-        Answer::NoPlaces => complain(answer.number()),
-        Answer::Full { steps: _ } => complain(answer.number()),
-        Answer::Spent { steps: _ } => complain(answer.number()),
-        Answer::Short { steps: _ } => complain(answer.number()),
-    }
+    let told = answer.told();
+    let Told::WithCount(_, bytes) = told else {
+        console::complain(told);
+        return;
+    };
+    write_route(out, bytes);
 }
 
 // A route that was found fits the output: that is a law (`found-fits`), and the test here never fails.
@@ -80,14 +76,4 @@ fn search_files(vertices: &[u8], polygons: &[u8], question: &[u8], out: &mut [u8
         &mut queue,
         out,
     )
-}
-
-// A line on standard error: the number and the words.
-fn complain(number: u32) {
-    console::complain(number, At::Nowhere);
-}
-
-// The same with the record at fault, where there is one.
-fn complain_of(refusal: Refusal) {
-    console::complain(refusal.number(), says::refusal_at(refusal));
 }

@@ -8,6 +8,7 @@ ghost use lib.ListN.{length};
 ghost use Rattle.routes.specs.Stored.{holdsOf, byteOf};
 use libc::STDOUT_FILENO;
 use search::Answer;
+use told::Told;
 
 // How many bytes each part of a case has.
 struct Parts {
@@ -166,9 +167,11 @@ fn try_with(
     out: &mut [u8],
 ) {
     let answer = search_with(lent, vertices, polygons, question, out);
-    say(answer);
-    say_whether(is_as_stored(stored, answer, out, route));
-    judge_found(answer, vertices, polygons, question, out);
+    let told = answer.told();
+    let steps = answer.steps();
+    say(told, steps);
+    say_whether(is_as_stored(stored, told, steps, out, route));
+    judge_found(told, vertices, polygons, question, out);
 }
 
 // Room for 4,096 nodes: 11 floats, 7 words and 2 words of the queue each.
@@ -215,14 +218,14 @@ fn search_with(
 }
 
 // The number, the words, the counted steps and the bytes, as "1 no route was found, steps 18, bytes 0".
-fn say(answer: Answer) {
-    io::print_decimal(STDOUT_FILENO, answer.number() as u64);
+fn say(told: Told, steps: usize) {
+    io::print_decimal(STDOUT_FILENO, told.number() as u64);
     io::write_all(STDOUT_FILENO, b" ");
-    say_words(answer.number());
+    say_words(told.number());
     io::write_all(STDOUT_FILENO, b", steps ");
-    io::print_decimal(STDOUT_FILENO, values::steps_of(answer) as u64);
+    io::print_decimal(STDOUT_FILENO, steps as u64);
     io::write_all(STDOUT_FILENO, b", bytes ");
-    io::print_decimal(STDOUT_FILENO, bytes_of(answer) as u64);
+    io::print_decimal(STDOUT_FILENO, bytes_of(told) as u64);
 }
 
 // Of a search 0 says found; the judge's word for it is accepted.
@@ -243,26 +246,21 @@ fn say_whether(same: bool) {
 }
 
 // The bytes that were written.
-fn bytes_of(answer: Answer) -> usize {
-    match answer {
-        Answer::Found { steps: _, bytes } => bytes,
-        Answer::NotFound { steps: _ } => 0,
-        Answer::Refused(_) => 0,
-        Answer::NoPlaces => 0,
-        Answer::Full { steps: _ } => 0,
-        Answer::Spent { steps: _ } => 0,
-        Answer::Short { steps: _ } => 0,
-    }
+fn bytes_of(told: Told) -> usize {
+    let Told::WithCount(_, bytes) = told else {
+        return 0;
+    };
+    bytes
 }
 
-fn is_as_stored(stored: Stored, answer: Answer, out: &[u8], route: &[u8]) -> bool {
-    if answer.number() != stored.number {
+fn is_as_stored(stored: Stored, told: Told, steps: usize, out: &[u8], route: &[u8]) -> bool {
+    if told.number() != stored.number {
         return false;
     }
-    if values::steps_of(answer) != stored.steps {
+    if steps != stored.steps {
         return false;
     }
-    if bytes_of(answer) != route.len() {
+    if bytes_of(told) != route.len() {
         return false;
     }
     holds(out, route)
@@ -292,26 +290,18 @@ fn byte_of(route: &[u8], i: usize) -> u8
 }
 
 // What the judge says of a route that was found, and the end of the line.
-fn judge_found(answer: Answer, vertices: &[u8], polygons: &[u8], question: &[u8], out: &[u8]) {
-    match answer {
-        Answer::Found { steps: _, bytes } => judge_front(vertices, polygons, question, out, bytes),
-        Answer::NotFound { steps: _ } => end_line(),
-        Answer::Refused(_) => end_line(),
-        Answer::NoPlaces => end_line(),
-        Answer::Full { steps: _ } => end_line(),
-        Answer::Spent { steps: _ } => end_line(),
-        Answer::Short { steps: _ } => end_line(),
-    }
-}
-
-fn end_line() {
-    io::write_all(STDOUT_FILENO, b"\n");
+fn judge_found(told: Told, vertices: &[u8], polygons: &[u8], question: &[u8], out: &[u8]) {
+    let Told::WithCount(_, bytes) = told else {
+        io::write_all(STDOUT_FILENO, b"\n");
+        return;
+    };
+    judge_front(vertices, polygons, question, out, bytes);
 }
 
 // A route that was found fits the output: that is a law (`found-fits`), and the test here never fails.
 fn judge_front(vertices: &[u8], polygons: &[u8], question: &[u8], out: &[u8], bytes: usize) {
     if bytes <= out.len() {
         io::write_all(STDOUT_FILENO, b", judged ");
-        console::say(judge::judge(vertices, polygons, question, &out[..bytes]));
+        console::say(judge::judge(vertices, polygons, question, &out[..bytes]).told());
     }
 }

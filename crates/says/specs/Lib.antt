@@ -1,3 +1,2 @@
--- What is said of a verdict.
+-- What is said of a number.
 pub mod Words
-pub mod At

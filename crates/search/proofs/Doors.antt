@@ -1,7 +1,7 @@
 -- From a floor and a question to the search: each way through the code is the definition's, and what the search asks for is there. Assumes nothing.
-use Prim.Native.Nat.{ℕ, _*_, _/_, _≤_, _<_}
+use Prim.Native.Nat.{ℕ, _≤_, _<_}
 use native.Mathlib.Omega.{arith}
-use mathlib.Core.Path.{_≡_, refl, sym, _∙_, subst}
+use mathlib.Core.Path.{_≡_, refl, sym, ap, _∙_, subst}
 use mathlib.Core.Bool.{Bool, true, false, not, cond, _&&_}
 use mathlib.Core.List.{List}
 use borrow.Author.Tests.{eq-eqb, ne-eqb, leb-false}
@@ -18,14 +18,17 @@ use Rattle.floor.specs.declared.FloorLook.{FloorLook}
 use Rattle.floor.specs.declared.FloorLook.the-variants.{Accepted as Sound, Faulty}
 use Rattle.floor.specs.declared.Look.{Look}
 use Rattle.floor.specs.declared.Look.the-variants.{Inside, Refused}
-use Rattle.stored.specs.Stored.{Floor, Question, floorOf, questionOf}
+use Rattle.plan.specs.Plan.{polygonCountIn}
+use Rattle.stored.specs.Stored.{Floor, floorOf, floorIn, questionOf}
 use Rattle.faults.specs.Tests.{coordinateRight, pointRight, questionRight}
-use Rattle.edges.specs.Where.{polygonOf, marksOf}
+use Rattle.edges.specs.Where.{polygonOf}
+use Rattle.edges.specs.Ground.{Ground}
 use Rattle.floor.specs.Look.{floorLookOf, askOf, lookOf}
-use Rattle.stored.proofs.Records.{polygon-count}
+use Rattle.stored.proofs.Records.{polygons-counted}
 use Rattle.floor.proofs.Looked.{question-length}
-use Rattle.floor.proofs.Exact.{floor-exactly}
+use Rattle.steps.specs.declared.Trip.{Trip}
 use Rattle.steps.specs.Steps.{seedNode}
+use Rattle.steps.specs.World.{tripOf}
 use Rattle.places.proofs.Records.{same-itself}
 use Rattle.machine.specs.declared.Task.{Task}
 use Rattle.writing.specs.declared.Answer.{Answer}
@@ -33,8 +36,7 @@ use Rattle.writing.specs.declared.Answer.the-variants.{NoPlaces}
 use Rattle.writing.specs.Answers.{refused}
 use Rattle.places.specs.Layout.{Work, Room, placesIn}
 use Rattle.machine.specs.Search.{Ending, searchedFrom}
-use Rattle.machine.specs.Sound.{Ground}
-use Rattle.writing.specs.Told.{straightBytes, written, told}
+use Rattle.writing.specs.Delivered.{straightBytes, written, delivered}
 use Rattle.search.specs.Whole.{Searched, searchedOf, routed, betweenOf, askedOf, searchOf}
 use Rattle.writing.specs.Writing.{Tells}
 use Rattle.machine.proofs.Kept.{Finishes}
@@ -43,35 +45,36 @@ use Rattle.search.proofs.Telling.{finish-tells}
 
 -- ---- one polygon, or a search
 
-module _ (f : Floor) (t : Task) (start : Point) (p budget : ℕ) (w : Work) (out : List ℕ) where
-  pub routes-straight : p ≡ t .polygon → {r : Answer} → r ≡ written (straightBytes start p (t .goal)) 0 out .answer → {out' : List ℕ} → out' ≡ written (straightBytes start p (t .goal)) 0 out .out
-      → searchedOf r w out' ≡ routed f t start p budget w out
+module _ (f : Floor) (t : Task) (budget : ℕ) (w : Work) (out : List ℕ) where
+  pub routes-straight : t .trip .from ≡ t .trip .to → {r : Answer} → r ≡ written (straightBytes (t .trip)) 0 out .answer
+      → {out' : List ℕ} → out' ≡ written (straightBytes (t .trip)) 0 out .out → searchedOf r w out' ≡ routed f t budget w out
   unfolding routed
   routes-straight e a o = rw (eq-eqb _ _ e, a, o)
 
-  pub routes-search : (p ≡ t .polygon → ⊥) → (e : Ending) → e ≡ searchedFrom f t start p budget w → {r : Answer} → r ≡ told start p (t .goal) e out .answer → {out' : List ℕ} → out' ≡ told start p (t .goal) e out .out
-      → searchedOf r (e .state .work) out' ≡ routed f t start p budget w out
+  pub routes-search : (t .trip .from ≡ t .trip .to → ⊥) → (e : Ending) → e ≡ searchedFrom f t budget w → {r : Answer} → r ≡ delivered (t .trip) e out .answer
+      → {out' : List ℕ} → out' ≡ delivered (t .trip) e out .out → searchedOf r (e .state .work) out' ≡ routed f t budget w out
   unfolding routed
   routes-search n e s a o = rw (ne-eqb _ _ n, a, o, ← s)
 
 -- where it ended it can be told
-pub routes-told : (vs ps marks : List ℕ) (t : Task) (start : Point) (p budget : ℕ) (w : Work) → Ground (t .slots) vs ps marks → Room (t .places) w → 1 ≤ t .places → p < length ps / (t .slots * 8)
-    → (e : Ending) → e ≡ searchedFrom (floorOf (t .slots) vs ps) t start p budget w → Tells (e .state .work .floats) (e .state .work .words) (e .finish)
-routes-told vs ps marks t start p budget w g room places listed e s =
-    let h = subst (Finishes vs ps t (seedNode start p) (g .some-slots) (g .few-slots) (g .accepted)) (sym s) (sound-searched vs ps t (g .some-slots) (g .few-slots) (g .accepted) (g .some-vertices) start p listed w room places budget) in
-    finish-tells vs ps t (seedNode start p) (e .state) (h .sound) (g .some-slots) (g .few-slots) (g .accepted) (e .finish) (h .arrives)
+pub routes-told : (plan vs ps : List ℕ) (t : Task) (budget : ℕ) (w : Work) → Ground plan vs ps → Room (t .places) w → 1 ≤ t .places
+    → t .trip .from < polygonCountIn plan → (e : Ending) → e ≡ searchedFrom (floorIn plan vs ps) t budget w
+    → Tells (e .state .work .floats) (e .state .work .words) (e .finish)
+routes-told plan vs ps t budget w g room places listed e s =
+    let seed = seedNode (t .trip .start) (t .trip .from) in
+    let h = subst (Finishes plan vs ps t seed g) (sym s) (sound-searched plan vs ps t g listed w room places budget) in
+    finish-tells plan vs ps t seed (e .state) (h .sound) g (e .finish) (h .arrives)
 
 -- ---- how many places
 
-module _ (slots : ℕ) (f : Floor) (q : Question) (p goal budget : ℕ) (w : Work) (out : List ℕ) {n : ℕ} (places : n ≡ placesIn w) where
-  pub between-none : n ≡ 0 → searchedOf NoPlaces w out ≡ betweenOf slots f q p goal budget w out
+module _ (f : Floor) (trip : Trip) (budget : ℕ) (w : Work) (out : List ℕ) {n : ℕ} (places : n ≡ placesIn w) where
+  pub between-none : n ≡ 0 → searchedOf NoPlaces w out ≡ betweenOf f trip budget w out
   unfolding betweenOf
   between-none e = rw (← places, eq-eqb _ _ e)
 
-  pub between-on : (n ≡ 0 → ⊥) → {from : Point} → from ≡ q .start → {to : Point} → to ≡ q .goal → {x : Searched} → x ≡ routed f (record { slots = slots; goal = to; polygon = goal; places = n }) from p budget w out
-      → x ≡ betweenOf slots f q p goal budget w out
+  pub between-on : (n ≡ 0 → ⊥) → {x : Searched} → x ≡ routed f (record { trip = trip; places = n }) budget w out → x ≡ betweenOf f trip budget w out
   unfolding betweenOf
-  between-on e a b x = x ∙ rw (a, b, ← places, ne-eqb _ _ e)
+  between-on e x = x ∙ rw (← places, ne-eqb _ _ e)
 
 -- ---- the question
 
@@ -94,10 +97,19 @@ inside-not r p q e = let z : _≡_ {A = ℕ} 0 1 = cc in absurd (omega arith)
 inside-first : (a b p q : ℕ) → Inside a b ≡ Inside p q → a ≡ p
 inside-first a b p q e = cc
 
--- where start and goal are inside, the question is long enough and the start's polygon is listed
-pub asked-inside : (f : Floor) (question : List ℕ) (p q : ℕ) → askOf f question ≡ Inside p q → (length question ≡ 16) × (p < length (f .polygons)) × (questionRight question ≡ true)
+inside-second : (a b p q : ℕ) → Inside a b ≡ Inside p q → b ≡ q
+inside-second a b p q e = cc
+
+-- where start and goal are inside, the question is long enough and both polygons are listed
+pub record Asking (f : Floor) (question : List ℕ) (p q : ℕ) : Type 0 where
+  pub long : length question ≡ 16
+  pub start-in : p < length (f .polygons)
+  pub goal-in : q < length (f .polygons)
+  pub right : questionRight question ≡ true
+
+pub asked-inside : (f : Floor) (question : List ℕ) (p q : ℕ) → askOf f question ≡ Inside p q → Asking f question p q
 unfolding askOf
-asked-inside f question p q e = go (questionRight question) refl (leb n a) refl (leb n b) e
+asked-inside f question p q e = go (questionRight question) refl (leb n a) refl (leb n b) refl e
   where
     n : ℕ
     n = length (f .polygons)
@@ -108,48 +120,58 @@ asked-inside f question p q e = go (questionRight question) refl (leb n a) refl 
     b : ℕ
     b = polygonOf f (questionOf question .goal)
 
-    go : (x : Bool) → questionRight question ≡ x → (y : Bool) → leb n a ≡ y → (z : Bool)
-        → cond (not x) (Refused refusal.Question) (cond y (Refused refusal.StartOutside) (cond z (Refused refusal.GoalOutside) (Inside a b))) ≡ Inside p q → (length question ≡ 16) × (p < n) × (questionRight question ≡ true)
-    go false r y m z e = inside-not refusal.Question p q e
-    go true r true m z e = inside-not refusal.StartOutside p q e
-    go true r false m true e = inside-not refusal.GoalOutside p q e
-    go true r false m false e = (question-length question r, rw (← inside-first a b p q e) (leb-false n a m), r)
+    go : (x : Bool) → questionRight question ≡ x → (y : Bool) → leb n a ≡ y → (z : Bool) → leb n b ≡ z
+        → cond (not x) (Refused refusal.Question) (cond y (Refused refusal.StartOutside) (cond z (Refused refusal.GoalOutside) (Inside a b))) ≡ Inside p q
+        → Asking f question p q
+    go false r y m z l e = inside-not refusal.Question p q e
+    go true r true m z l e = inside-not refusal.StartOutside p q e
+    go true r false m true l e = inside-not refusal.GoalOutside p q e
+    go true r false m false l e = record {
+      long = question-length question r;
+      start-in = rw (← inside-first a b p q e) (leb-false n a m);
+      goal-in = rw (← inside-second a b p q e) (leb-false n b l);
+      right = r;
+    }
 
-module _ (slots : ℕ) (vs ps question : List ℕ) (budget : ℕ) (w : Work) (out : List ℕ) {look : Look} (asked : look ≡ askOf (floorOf slots vs ps) question) where
-  pub start-listed : {p goal : ℕ} → look ≡ Inside p goal → (length question ≡ 16) × (p < length ps / (slots * 8)) × (questionRight question ≡ true)
-  start-listed {p} {goal} e =
-      let h = asked-inside (floorOf slots vs ps) question p goal (sym asked ∙ e) in
-      (h .0, subst (λ (n : ℕ). p < n) (polygon-count slots vs ps) (h .1), h .2)
-
-  pub asks-inside : {p goal : ℕ} → look ≡ Inside p goal → {x : Searched} → x ≡ betweenOf slots (floorOf slots vs ps) (questionOf question) p goal budget w out → x ≡ askedOf slots vs ps question budget w out
+module _ (f : Floor) (question : List ℕ) (budget : ℕ) (w : Work) (out : List ℕ) {look : Look} (asked : look ≡ askOf f question) where
+  pub asks-inside : {p goal : ℕ} → look ≡ Inside p goal → {trip : Trip} → trip ≡ tripOf (questionOf question) p goal
+      → {x : Searched} → x ≡ betweenOf f trip budget w out → x ≡ askedOf f question budget w out
   unfolding askedOf
-  asks-inside e x = x ∙ rw (← asked, e)
+  asks-inside e t x = x ∙ rw (t, ← asked, e)
 
-  pub asks-refused : {r : Refusal} → look ≡ Refused r → searchedOf (refused r) w out ≡ askedOf slots vs ps question budget w out
+  pub asks-refused : {r : Refusal} → look ≡ Refused r → searchedOf (refused r) w out ≡ askedOf f question budget w out
   unfolding askedOf
   asks-refused e = rw (← asked, e)
 
+-- both polygons by the plan, and a start without a NaN
+module _ {plan vs ps : List ℕ} (g : Ground plan vs ps) (question : List ℕ) {look : Look} (asked : look ≡ askOf (floorIn plan vs ps) question) {p q : ℕ}
+    (inside : look ≡ Inside p q) where
+  its : Asking (floorIn plan vs ps) question p q
+  its = asked-inside (floorIn plan vs ps) question p q (sym asked ∙ inside)
+
+  pub question-long : length question ≡ 16
+  question-long = its .long
+
+  pub start-listed : p < polygonCountIn plan
+  start-listed = subst (λ (n : ℕ). p < n) (polygons-counted (g .polygons-planned)) (its .start-in)
+
+  pub goal-listed : q < polygonCountIn plan
+  goal-listed = subst (λ (n : ℕ). q < n) (polygons-counted (g .polygons-planned)) (its .goal-in)
+
+  pub few-listed : polygonCountIn plan ≤ 512
+  few-listed = rw (g .polygons-planned .counted) (g .polygons-planned .few)
+
+  pub trip-self : {trip : Trip} → trip ≡ tripOf (questionOf question) p q → sameOf (trip .start) (trip .start) ≡ true
+  trip-self t = start-self question (its .right) (ap (λ (x : Trip). x .start) t)
+
 -- ---- the floor
 
-module _ (slots : ℕ) (vs ps : List ℕ) {look : FloorLook} (looked : look ≡ floorLookOf slots vs ps) where
-  pub ground-of : look ≡ Sound → 0 < slots → slots ≤ 16 → (marks : List ℕ) → marks ≡ marksOf (floorOf slots vs ps) → Ground slots vs ps marks
-  ground-of e some few marks m =
-      let h = floor-exactly slots vs ps Sound .0 (sym looked ∙ e) in
-      record {
-        some-slots = some;
-        few-slots = few;
-        accepted = h .1;
-        some-vertices = h .0 .vertices-whole .some;
-        few-vertices = h .0 .vertices-whole .few;
-        few-polygons = h .0 .polygons-whole .few;
-        marked = m;
-      }
+module _ (slots : ℕ) (vs ps : List ℕ) {look : FloorLook} (looked : look ≡ floorLookOf slots vs ps) (question : List ℕ) (budget : ℕ) (w : Work) (out : List ℕ) where
+  pub searches-floor : look ≡ Sound → {x : Searched} {s : ℕ} → s ≡ slots → x ≡ askedOf (floorOf s vs ps) question budget w out
+      → x ≡ searchOf slots vs ps question budget w out
+  unfolding searchOf askedOf lookOf
+  searches-floor e s x = x ∙ rw (s, ← looked, e)
 
-  module _ (question : List ℕ) (budget : ℕ) (w : Work) (out : List ℕ) where
-    pub searches-floor : look ≡ Sound → {x : Searched} → x ≡ askedOf slots vs ps question budget w out → x ≡ searchOf slots vs ps question budget w out
-    unfolding searchOf askedOf lookOf
-    searches-floor e x = x ∙ rw (← looked, e)
-
-    pub searches-refused : {r : Refusal} → look ≡ Faulty r → searchedOf (refused r) w out ≡ searchOf slots vs ps question budget w out
-    unfolding searchOf lookOf
-    searches-refused e = rw (← looked, e)
+  pub searches-refused : {r : Refusal} → look ≡ Faulty r → searchedOf (refused r) w out ≡ searchOf slots vs ps question budget w out
+  unfolding searchOf lookOf
+  searches-refused e = rw (← looked, e)

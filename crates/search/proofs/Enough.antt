@@ -10,56 +10,58 @@ use lib.ListN.{length, drop}
 use Rattle.floor.specs.declared.Look.{Look}
 use Rattle.floor.specs.declared.Look.the-variants.{Inside, Refused}
 use Rattle.floor.specs.Look.{lookOf}
-use Rattle.stored.specs.Stored.{Floor, Question, floorOf, questionOf}
+use Rattle.stored.specs.Stored.{Floor, floorOf, questionOf}
+use Rattle.steps.specs.declared.Trip.{Trip}
+use Rattle.steps.specs.World.{tripOf}
 use Rattle.machine.specs.declared.Task.{Task}
 use Rattle.machine.specs.declared.Finish.{Finish}
 use Rattle.machine.specs.declared.Finish.the-variants.{Arrived, Emptied, Filled, Stopped}
 use Rattle.writing.specs.declared.Answer.the-variants.{Found, NoPlaces, Short}
 use Rattle.places.specs.Layout.{Work, placesIn}
 use Rattle.machine.specs.Search.{Ending, searchedFrom}
-use Rattle.writing.specs.Told.{Told, toldOf, written, routeBytes, straightBytes, finished, told}
+use Rattle.writing.specs.Delivered.{Delivered, deliveredOf, written, routeBytes, straightBytes, finished, delivered}
 use Rattle.search.specs.Whole.{Searched, searchedOf, ifInside, withWork, routed, betweenOf, searchOf}
 
 written-fits : (bytes : List ℕ) (counted : ℕ) (out : List ℕ) (steps n : ℕ) → written bytes counted out .answer ≡ Found steps n → n ≤ length out
 unfolding written
 written-fits bytes counted out steps n = go (ltb (length out) (length bytes)) refl
   where
-    go : (b : Bool) → ltb (length out) (length bytes) ≡ b → cond {A = Told} b (toldOf (Short counted) out) (toldOf (Found counted (length bytes)) (bytes ++ drop (length bytes) out)) .answer ≡ Found steps n → n ≤ length out
+    go : (b : Bool) → ltb (length out) (length bytes) ≡ b → cond {A = Delivered} b (deliveredOf (Short counted) out) (deliveredOf (Found counted (length bytes)) (bytes ++ drop (length bytes) out)) .answer ≡ Found steps n → n ≤ length out
     go true l e = let z : _≡_ {A = ℕ} 0 1 = cc in absurd (omega arith)
     go false l e = let k : length bytes ≡ n = cc in omega (arith, ltb-false (length out) (length bytes) l)
 
-module _ (s : ℕ) (f : Floor) (q : Question) (from to budget : ℕ) (w : Work) (out : List ℕ) (steps n : ℕ) where
+module _ (f : Floor) (trip : Trip) (budget : ℕ) (w : Work) (out : List ℕ) (steps n : ℕ) where
   abbrev task : Task
-  task = record { slots = s; goal = q .goal; polygon = to; places = placesIn w }
+  task = record { trip = trip; places = placesIn w }
 
   abbrev end : Ending
-  end = searchedFrom f task (q .start) from budget w
+  end = searchedFrom f task budget w
 
-  finished-fits : (finish : Finish) → finished (end .state .work) (q .start) from (q .goal) finish (end .state .counts .pops) out .answer ≡ Found steps n → n ≤ length out
-  finished-fits (Arrived i) e = written-fits (routeBytes (end .state .work) (q .start) from (q .goal) i) (end .state .counts .pops) out steps n e
+  finished-fits : (finish : Finish) → finished (end .state .work) trip finish (end .state .counts .pops) out .answer ≡ Found steps n → n ≤ length out
+  finished-fits (Arrived i) e = written-fits (routeBytes (end .state .work) trip i) (end .state .counts .pops) out steps n e
   finished-fits Emptied e = let z : _≡_ {A = ℕ} 0 1 = cc in absurd (omega arith)
   finished-fits Filled e = let z : _≡_ {A = ℕ} 0 1 = cc in absurd (omega arith)
   finished-fits Stopped e = let z : _≡_ {A = ℕ} 0 1 = cc in absurd (omega arith)
 
-  between-fits : betweenOf s f q from to budget w out .answer ≡ Found steps n → n ≤ length out
-  unfolding betweenOf routed told
-  between-fits = go (eqb (placesIn w) 0) (eqb from to)
+  between-fits : betweenOf f trip budget w out .answer ≡ Found steps n → n ≤ length out
+  unfolding betweenOf routed delivered
+  between-fits = go (eqb (placesIn w) 0) (eqb (trip .from) (trip .to))
     where
-      straight : Told
-      straight = written (straightBytes (q .start) from (q .goal)) 0 out
+      straight : Delivered
+      straight = written (straightBytes trip) 0 out
 
-      around : Told
-      around = finished (end .state .work) (q .start) from (q .goal) (end .finish) (end .state .counts .pops) out
+      around : Delivered
+      around = finished (end .state .work) trip (end .finish) (end .state .counts .pops) out
 
       go : (a b : Bool) → cond {A = Searched} a (searchedOf NoPlaces w out) (cond {A = Searched} b (withWork w straight) (withWork (end .state .work) around)) .answer ≡ Found steps n → n ≤ length out
       go true b e = let z : _≡_ {A = ℕ} 0 1 = cc in absurd (omega arith)
-      go false true e = written-fits (straightBytes (q .start) from (q .goal)) 0 out steps n e
+      go false true e = written-fits (straightBytes trip) 0 out steps n e
       go false false e = finished-fits (end .finish) e
 
 pub found-fits : (s : ℕ) (vs ps question : List ℕ) (budget : ℕ) (w : Work) (out : List ℕ) (steps n : ℕ) → searchOf s vs ps question budget w out .answer ≡ Found steps n → n ≤ length out
 unfolding searchOf
 found-fits s vs ps question budget w out steps n = go (lookOf s vs ps question)
   where
-    go : (look : Look) → ifInside look w out (λ p goal. betweenOf s (floorOf s vs ps) (questionOf question) p goal budget w out) .answer ≡ Found steps n → n ≤ length out
-    go (Inside from to) e = between-fits s (floorOf s vs ps) (questionOf question) from to budget w out steps n e
+    go : (look : Look) → ifInside look w out (λ p goal. betweenOf (floorOf s vs ps) (tripOf (questionOf question) p goal) budget w out) .answer ≡ Found steps n → n ≤ length out
+    go (Inside from to) e = between-fits (floorOf s vs ps) (tripOf (questionOf question) from to) budget w out steps n e
     go (Refused r) e = let z : _≡_ {A = ℕ} 0 1 = cc in absurd (omega arith)

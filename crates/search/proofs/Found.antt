@@ -9,7 +9,7 @@ use mathlib.Core.Bool.{true}
 use mathlib.Core.List.{List, _++_}
 use borrow.Author.Tests.{eq-eqb}
 use lib.ListN.{length, length-append}
-use Rattle.stored.specs.Stored.{Floor, Question, floorOf}
+use Rattle.stored.specs.Stored.{Floor, floorIn}
 use Rattle.route.specs.Record.{seedBytes, stepBytes}
 use Rattle.route.specs.World.{World, Lawful, Trail, seeded, stepped, TrueRoute}
 use Rattle.route.proofs.Bytes.{seed-is-32, end-is-32}
@@ -21,21 +21,21 @@ use Rattle.machine.specs.declared.Task.{Task}
 use Rattle.places.specs.Layout.{Work, nodeAt, stepAt, parentAt, depthAt}
 use Rattle.machine.specs.Search.{State}
 use Rattle.machine.specs.Sound.{Entered, Sound}
-use Rattle.writing.specs.Told.{chainBytes, endAfter, routeBytes, straightBytes}
+use Rattle.writing.specs.Delivered.{chainBytes, endAfter, routeBytes, straightBytes}
 
-module _ (vs ps : List ℕ) (t : Task) (q : Question) (goal : q .goal ≡ t .goal) (p : ℕ) where
+module _ (plan vs ps : List ℕ) (t : Task) where
   abbrev f : Floor
-  f = floorOf (t .slots) vs ps
+  f = floorIn plan vs ps
 
   abbrev world : World Node
-  world = worldIn f q p (t .polygon)
+  world = worldIn f (t .trip)
 
-  module _ (s : State) (h : Sound vs ps t (seedNode (q .start) p) s) where
+  module _ (s : State) (h : Sound plan vs ps t (seedNode (t .trip .start) (t .trip .from)) s) where
     abbrev w : Work
     w = s .work
 
     abbrev first : List ℕ
-    first = seedBytes p (q .start)
+    first = seedBytes (t .trip .from) (t .trip .start)
 
     -- ---- the chain of a place
 
@@ -69,7 +69,7 @@ module _ (vs ps : List ℕ) (t : Task) (q : Question) (goal : q .goal ≡ t .goa
 
     -- ---- a place in the goal polygon
 
-    pub route-is-true : (i : ℕ) → i < s .counts .taken → isInGoal (t .polygon) (nodeAt w i) ≡ true → TrueRoute world (routeBytes w (q .start) p (t .goal) i)
+    pub route-is-true : (i : ℕ) → i < s .counts .taken → isInGoal (t .trip .to) (nodeAt w i) ≡ true → TrueRoute world (routeBytes w (t .trip) i)
     unfolding routeBytes endAfter worldIn
     route-is-true i l arrived = record {
       steps = depthAt w i;
@@ -78,28 +78,28 @@ module _ (vs ps : List ℕ) (t : Task) (q : Question) (goal : q .goal ≡ t .goa
       bytes = chainBytes w first (depthAt w i) i;
       trail = chain-is-trail i l;
       arrived = arrived;
-      whole = rw goal refl;
+      whole = refl;
     }
 
     -- a record for the seed, one for each step and one for the end
-    pub route-long : Lawful world → (i : ℕ) → i < s .counts .taken → length (routeBytes w (q .start) p (t .goal) i) ≡ 32 * (depthAt w i + 2)
+    pub route-long : Lawful world → (i : ℕ) → i < s .counts .taken → length (routeBytes w (t .trip) i) ≡ 32 * (depthAt w i + 2)
     unfolding routeBytes endAfter
-    route-long lawful i l = length-append (chainBytes w first (depthAt w i) i) _ ∙ omega (arith, trail-long lawful (chain-is-trail i l), end-is-32 (endingOf (t .goal) (nodeAt w i) .points) (t .goal) (endingOf (t .goal) (nodeAt w i) .length))
+    route-long lawful i l = length-append (chainBytes w first (depthAt w i) i) _ ∙ omega (arith, trail-long lawful (chain-is-trail i l), end-is-32 (endingOf (t .trip .goal) (nodeAt w i) .points) (t .trip .goal) (endingOf (t .trip .goal) (nodeAt w i) .length))
 
   -- ---- start and goal in one polygon
 
-  pub straight-long : length (straightBytes (q .start) p (t .goal)) ≡ 64
+  pub straight-long : length (straightBytes (t .trip)) ≡ 64
   unfolding straightBytes endAfter
-  straight-long = length-append (seedBytes p (q .start)) _ ∙ omega (arith, seed-is-32 p (q .start), end-is-32 (endingOf (t .goal) (seedNode (q .start) p) .points) (t .goal) (endingOf (t .goal) (seedNode (q .start) p) .length))
+  straight-long = length-append (seedBytes (t .trip .from) (t .trip .start)) _ ∙ omega (arith, seed-is-32 (t .trip .from) (t .trip .start), end-is-32 (endingOf (t .trip .goal) (seedNode (t .trip .start) (t .trip .from)) .points) (t .trip .goal) (endingOf (t .trip .goal) (seedNode (t .trip .start) (t .trip .from)) .length))
 
-  pub straight-is-true : p ≡ t .polygon → TrueRoute world (straightBytes (q .start) p (t .goal))
+  pub straight-is-true : t .trip .from ≡ t .trip .to → TrueRoute world (straightBytes (t .trip))
   unfolding straightBytes endAfter worldIn isInGoal seedNode
   straight-is-true e = record {
     steps = 0;
     few = omega arith;
-    last = seedNode (q .start) p;
-    bytes = seedBytes p (q .start);
+    last = seedNode (t .trip .start) (t .trip .from);
+    bytes = seedBytes (t .trip .from) (t .trip .start);
     trail = seeded;
-    arrived = eq-eqb p (t .polygon) e;
-    whole = rw goal refl;
+    arrived = eq-eqb (t .trip .from) (t .trip .to) e;
+    whole = refl;
   }

@@ -1,12 +1,12 @@
 -- From a sound state every place that is taken can be told: the rows of its chain lie in the lent buffers. Rests on specs/Sound and specs/Writing. Assumes nothing.
-use Prim.Native.Nat.{ℕ, zero, suc, _+_, _≤_, _<_}
+use Prim.Native.Nat.{ℕ, zero, suc, _+_, _*_, _≤_, _<_}
 use native.Mathlib.Decide.{decLt}
 use native.Mathlib.Numerals.{add-one}
 use native.Mathlib.Omega.{arith}
 use mathlib.Core.Path.{_≡_, subst}
 use mathlib.Core.List.{List}
-use Rattle.stored.specs.Stored.{floorOf}
-use Rattle.faults.specs.Accepted.{Accepted}
+use lib.ListN.{length}
+use Rattle.edges.specs.Ground.{Ground}
 use Rattle.steps.specs.declared.Node.{Node}
 use Rattle.machine.specs.declared.Task.{Task}
 use Rattle.machine.specs.declared.Finish.{Finish}
@@ -15,37 +15,42 @@ use Rattle.machine.specs.declared.Outcome.the-variants.{Ends}
 use Rattle.places.specs.Layout.{Work, depthAt, parentAt}
 use Rattle.machine.specs.Search.{State}
 use Rattle.machine.specs.Sound.{Sound}
-use Rattle.writing.specs.Writing.{Row, Lies, Tellable, Tells}
+use Rattle.writing.specs.Writing.{Row, ChainLies, Tellable, Tells}
 use Rattle.machine.proofs.Kept.{Arrives}
 
-module _ (vs ps : List ℕ) (t : Task) (seed : Node) (s : State) (h : Sound vs ps t seed s) where
+module _ (plan vs ps : List ℕ) (t : Task) (seed : Node) (s : State) (h : Sound plan vs ps t seed s) where
   abbrev w : Work
   w = s .work
 
   row-in : (i : ℕ) → i < s .counts .taken → Row (w .floats) (w .words) i
   row-in i l = record { in-floats = omega (arith, h .fit .room .floats-room, l, h .taken-in); in-words = omega (arith, h .fit .room .words-room, l, h .taken-in) }
 
-  lies-below : (m i : ℕ) → i < m → i < s .counts .taken → Lies (w .floats) (w .words) (depthAt w i) i
+  lies-below : (m i : ℕ) → i < m → i < s .counts .taken → ChainLies (w .floats) (w .words) (depthAt w i) i
   lies-below zero i b l = absurd (omega arith)
   lies-below (suc m) i b l = go (decLt 0 i) (lies-below m)
     where
-      go : Dec (0 < i) → ((j : ℕ) → j < m → j < s .counts .taken → Lies (w .floats) (w .words) (depthAt w j) j) → Lies (w .floats) (w .words) (depthAt w i) i
+      go : Dec (0 < i) → ((j : ℕ) → j < m → j < s .counts .taken → ChainLies (w .floats) (w .words) (depthAt w j) j) → ChainLies (w .floats) (w .words) (depthAt w i) i
       go (yes z) lower =
           let e = h .entered i z l in
           rw (e .deeper, add-one) (row-in i l, lower (parentAt w i) (omega (arith, e .lower, b)) (omega (arith, e .lower, l)))
       go (no z) lower =
           let zero-is : 0 ≡ i = omega arith in
-          subst (λ (j : ℕ). Lies (w .floats) (w .words) (depthAt w j) j) zero-is (rw (h .seed-depth) tt)
+          subst (λ (j : ℕ). ChainLies (w .floats) (w .words) (depthAt w j) j) zero-is (rw (h .seed-depth) tt)
+
+  parent-in : (i : ℕ) → i < s .counts .taken → (parentAt w i + 1) * 8 ≤ length (w .words)
+  parent-in zero l = omega (arith, h .seed-parent, h .fit .room .words-room, l, h .taken-in)
+  parent-in (suc i) l = omega (arith, h .entered (suc i) (omega arith) l .lower, h .fit .room .words-room, l, h .taken-in)
 
   pub place-tellable : (i : ℕ) → i < s .counts .taken → Tellable (w .floats) (w .words) i
   place-tellable i l = record {
     row = row-in i l;
+    parent-row = parent-in i l;
     lies = lies-below (i + 1) i (omega arith) l;
     points-few = omega (arith, h .held i l .points-few, h .held i l .depth-few, l, h .taken-in, h .fit .room .few);
   }
 
-  module _ (some : 0 < t .slots) (few : t .slots ≤ 16) (accepted : Accepted (floorOf (t .slots) vs ps)) where
-    pub finish-tells : (finish : Finish) → Arrives vs ps t seed some few accepted s (Ends finish) → Tells (w .floats) (w .words) finish
+  module _ (g : Ground plan vs ps) where
+    pub finish-tells : (finish : Finish) → Arrives plan vs ps t seed g s (Ends finish) → Tells (w .floats) (w .words) finish
     finish-tells (Arrived i) at = place-tellable i (at .0)
     finish-tells Emptied at = tt
     finish-tells Filled at = tt

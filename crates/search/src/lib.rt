@@ -2,19 +2,19 @@
 
 ghost use mathlib.Core.Path.{_≡_};
 ghost use mathlib.Core.Bool.{true};
-ghost use Prim.Native.Nat.{_*_, _/_, _≤_, _<_};
-ghost use lib.ListN.{length};
+ghost use Prim.Native.Nat.{_≤_, _<_};
 ghost use Rattle.point.specs.Point.{sameOf};
-ghost use Rattle.stored.specs.Stored.{floorOf, questionOf};
-ghost use Rattle.faults.specs.Tests.{questionRight};
+ghost use Rattle.plan.specs.Plan.{polygonCountIn};
+ghost use Rattle.stored.specs.Stored.{floorIn};
+ghost use Rattle.edges.specs.Ground.{Ground};
 ghost use Rattle.places.specs.Layout.{workOf, Room};
-ghost use Rattle.machine.specs.Sound.{Ground};
 ghost use Rattle.search.specs.Whole.{searchedOf, routed, betweenOf, askedOf, searchOf};
 use floor::FloorLook;
 use floor::Look;
 use machine::Task;
-use point::Point;
+use plan::PLAN;
 use popping::search_from;
+use steps::Trip;
 pub use writing::Answer;
 use writing::tell;
 use writing::write_straight;
@@ -22,79 +22,55 @@ use writing::write_straight;
 // The steps of a search without a budget.
 pub const DEFAULT_BUDGET: usize = 4096;
 
-// From a point in polygon p to the task's goal.
+// The task's trip: start and goal in one polygon, or a search.
 fn route_from(
     vertices: &[u8],
     polygons: &[u8],
-    marks: &[u32; 32],
+    plan: &[u32; PLAN],
     task: Task,
-    start: Point,
-    p: usize,
     budget: usize,
     floats: &mut [f32],
     words: &mut [u32],
     tree: &mut [u32],
     out: &mut [u8],
 ) -> Answer
-    requires { ⌜ Ground (task .slots) (now vertices) (now polygons) (now marks) ⌝ }
-    requires { ⌜ Room (task .places) (workOf (now floats) (now words) (now tree)) × (1 ≤ task .places) × (p < length (now polygons) / (task .slots * 8)) × (sameOf start start ≡ true) ⌝ }
-    ensures { λ r. ⌜ searchedOf r (workOf (now (floats .exit)) (now (words .exit)) (now (tree .exit))) (now (out .exit)) ≡ routed (floorOf (task .slots) (now (vertices .entry)) (now (polygons .entry))) task start p budget (workOf (now (floats .entry)) (now (words .entry)) (now (tree .entry))) (now (out .entry)) ⌝ }
+    requires { ⌜ Ground (now plan) (now vertices) (now polygons) × (task .trip .from < polygonCountIn (now plan)) ⌝ }
+    requires { ⌜ Room (task .places) (workOf (now floats) (now words) (now tree)) × (1 ≤ task .places) × (sameOf (task .trip .start) (task .trip .start) ≡ true) ⌝ }
+    ensures { λ r. let f = floorIn (now (plan .entry)) (now (vertices .entry)) (now (polygons .entry)) in let before = workOf (now (floats .entry)) (now (words .entry)) (now (tree .entry)) in let after = workOf (now (floats .exit)) (now (words .exit)) (now (tree .exit)) in ⌜ searchedOf r after (now (out .exit)) ≡ routed f task budget before (now (out .entry)) ⌝ }
 {
-    if p == task.polygon {
-        return write_straight(task, start, p, out);
+    let trip = task.trip;
+    if trip.from == trip.to {
+        return write_straight(trip, out);
     }
-    let ended = search_from(
-        vertices,
-        polygons,
-        marks,
-        task,
-        start,
-        p,
-        budget,
-        floats,
-        words,
-        tree,
-    );
-    tell(task, start, p, ended, floats, words, out)
+    let ended = search_from(vertices, polygons, plan, task, budget, floats, words, tree);
+    tell(trip, ended, floats, words, out)
 }
 
-// From polygon p to polygon q.
+// The trip with as many places as were lent.
 fn route_between(
     vertices: &[u8],
     polygons: &[u8],
-    marks: &[u32; 32],
-    question: &[u8],
-    p: usize,
-    q: usize,
+    plan: &[u32; PLAN],
+    trip: Trip,
     budget: usize,
     floats: &mut [f32],
     words: &mut [u32],
     tree: &mut [u32],
     out: &mut [u8],
 ) -> Answer
-    requires { ⌜ Ground 8 (now vertices) (now polygons) (now marks) ⌝ }
-    requires { ⌜ (length (now question) ≡ 16) × (p < length (now polygons) / 64) × (questionRight (now question) ≡ true) ⌝ }
-    ensures { λ r. ⌜ searchedOf r (workOf (now (floats .exit)) (now (words .exit)) (now (tree .exit))) (now (out .exit)) ≡ betweenOf 8 (floorOf 8 (now (vertices .entry)) (now (polygons .entry))) (questionOf (now (question .entry))) p q budget (workOf (now (floats .entry)) (now (words .entry)) (now (tree .entry))) (now (out .entry)) ⌝ }
+    requires { ⌜ Ground (now plan) (now vertices) (now polygons) × (trip .from < polygonCountIn (now plan)) × (sameOf (trip .start) (trip .start) ≡ true) ⌝ }
+    ensures { λ r. let f = floorIn (now (plan .entry)) (now (vertices .entry)) (now (polygons .entry)) in let before = workOf (now (floats .entry)) (now (words .entry)) (now (tree .entry)) in let after = workOf (now (floats .exit)) (now (words .exit)) (now (tree .exit)) in ⌜ searchedOf r after (now (out .exit)) ≡ betweenOf f trip budget before (now (out .entry)) ⌝ }
 {
     let places = places::places_in(floats, words, tree);
     if places == 0 {
         return Answer::NoPlaces;
     }
-    let start = stored::question_start(question);
-    let goal = stored::question_goal(question);
-    let task = Task {
-        slots: floor::SLOTS,
-        goal,
-        polygon: q,
-        places,
-    };
+    let task = Task { trip, places };
     route_from(
         vertices,
         polygons,
-        marks,
+        plan,
         task,
-        start,
-        p,
         budget,
         floats,
         words,
@@ -103,11 +79,11 @@ fn route_between(
     )
 }
 
-// One question of a floor that was accepted, whose turn vertices are known.
+// One question of a floor that was accepted, by its plan.
 pub fn search_on(
     vertices: &[u8],
     polygons: &[u8],
-    marks: &[u32; 32],
+    plan: &[u32; PLAN],
     question: &[u8],
     budget: usize,
     floats: &mut [f32],
@@ -115,23 +91,24 @@ pub fn search_on(
     tree: &mut [u32],
     out: &mut [u8],
 ) -> Answer
-    requires { ⌜ Ground 8 (now vertices) (now polygons) (now marks) ⌝ }
-    ensures { λ r. ⌜ searchedOf r (workOf (now (floats .exit)) (now (words .exit)) (now (tree .exit))) (now (out .exit)) ≡ askedOf 8 (now (vertices .entry)) (now (polygons .entry)) (now (question .entry)) budget (workOf (now (floats .entry)) (now (words .entry)) (now (tree .entry))) (now (out .entry)) ⌝ }
+    requires { ⌜ Ground (now plan) (now vertices) (now polygons) ⌝ }
+    ensures { λ r. let f = floorIn (now (plan .entry)) (now (vertices .entry)) (now (polygons .entry)) in let before = workOf (now (floats .entry)) (now (words .entry)) (now (tree .entry)) in let after = workOf (now (floats .exit)) (now (words .exit)) (now (tree .exit)) in ⌜ searchedOf r after (now (out .exit)) ≡ askedOf f (now (question .entry)) budget before (now (out .entry)) ⌝ }
 {
-    match floor::ask(vertices, polygons, question) {
-        Look::Inside(p, q) => route_between(
-            vertices,
-            polygons,
-            marks,
-            question,
-            p,
-            q,
-            budget,
-            floats,
-            words,
-            tree,
-            out,
-        ),
+    match floor::ask(vertices, polygons, plan, question) {
+        Look::Inside(from, to) => {
+            let trip = Trip::of(question, from as u32, to as u32);
+            route_between(
+                vertices,
+                polygons,
+                plan,
+                trip,
+                budget,
+                floats,
+                words,
+                tree,
+                out,
+            )
+        }
         Look::Refused(refusal) => Answer::Refused(refusal),
     }
 }
@@ -149,21 +126,19 @@ pub fn search(
 ) -> Answer
     ensures { λ r. ⌜ searchedOf r (workOf (now (floats .exit)) (now (words .exit)) (now (tree .exit))) (now (out .exit)) ≡ searchOf 8 (now (vertices .entry)) (now (polygons .entry)) (now (question .entry)) budget (workOf (now (floats .entry)) (now (words .entry)) (now (tree .entry))) (now (out .entry)) ⌝ }
 {
-    match floor::look_at_floor(vertices, polygons) {
-        FloorLook::Accepted => {
-            let marks = edges::turns::turn_vertices(vertices, polygons, floor::SLOTS);
-            search_on(
-                vertices,
-                polygons,
-                &marks,
-                question,
-                budget,
-                floats,
-                words,
-                tree,
-                out,
-            )
-        }
+    let mut plan = [0u32; PLAN];
+    match floor::look_at_floor(vertices, polygons, &mut plan) {
+        FloorLook::Accepted => search_on(
+            vertices,
+            polygons,
+            &plan,
+            question,
+            budget,
+            floats,
+            words,
+            tree,
+            out,
+        ),
         FloorLook::Faulty(refusal) => Answer::Refused(refusal),
     }
 }

@@ -20,7 +20,8 @@ use Rattle.walk.specs.declared.Part.{Part}
 use Rattle.walk.specs.declared.Walked.{Walked}
 use Rattle.walk.specs.declared.round.Round.{Round}
 use Rattle.walk.specs.Walk.{oneOf, twoOf, threeOf, held, walkedOf, walkEdgeOf, partsOf, partAt}
-use Rattle.walk.specs.Round.{Successor, successorsOn}
+use Rattle.walk.specs.declared.Successor.{Successor}
+use Rattle.walk.specs.Round.{successorsOn}
 use Rattle.walk.specs.Turns.{isOverOf, edgeNumberOf, nextOf}
 use Rattle.walk.proofs.Laws.{one-to-three, array-holds-the-parts}
 use Rattle.stored.specs.Stored.{Floor, Polygon, floorOf, polygonAt, unused, corner, neighbour, cornerAfter, polygon}

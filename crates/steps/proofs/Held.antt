@@ -12,13 +12,15 @@ use Rattle.point.specs.declared.Segment.{Segment}
 use Rattle.point.specs.Point.{slack, pointOf, plusOf, sameOf}
 use Rattle.cone.specs.declared.Clipped.the-variants.{Seen}
 use Rattle.cone.specs.Cone.{clipToConeOf}
-use Rattle.cone.proofs.Clip.{rightLength, leftLength, clip-short-ray, clip-ends}
+use Rattle.cone.specs.Sight.{rightLength, leftLength}
+use Rattle.cone.proofs.Clip.{clip-short-ray, clip-ends}
 use Rattle.cut.specs.declared.SuccessorType.{SuccessorType}
 use Rattle.walk.specs.declared.Part.{Part}
 use Rattle.walk.specs.Walk.{walkEdgeOf}
-use Rattle.walk.specs.Round.{Successor, cornerOf, edgeOf, successorsOn, walkOf, successorsOf}
+use Rattle.walk.specs.declared.Successor.{Successor}
+use Rattle.walk.specs.Round.{cornerOf, edgeOf, successorsOn, walkOf, successorsOf}
 use Rattle.route.specs.Step.{HeldPoint}
-use Rattle.stored.specs.Stored.{Floor, vertex, edge, cornerCount, corner, polygon}
+use Rattle.stored.specs.Stored.{vertexIn, Floor, vertex, edge, cornerCount, corner, polygon}
 use Rattle.steps.specs.declared.Node.{Node}
 use Rattle.steps.specs.Steps.{wholeEdge, wholeEdges, successorsIn, candidates, clipped, rootAfter}
 use Rattle.walk.proofs.All.{All, all-append, all-of-map}
@@ -39,7 +41,7 @@ unfolding pointOf
 nan-held = record { x-held = nan-fits binary32; y-held = nan-fits binary32 }
 
 vertex-held : (f : Floor) (v : ℕ) → HeldPoint (vertex f v)
-unfolding vertex
+unfolding vertexIn
 vertex-held f v = sum-held _ _
 
 -- ---- the candidates
@@ -90,9 +92,9 @@ clip-held root cone segment seen h e = go (lt (rightLength root cone) slack) ref
           record { x-held = rw (r .end-x) (add-fits binary32 _ _); y-held = rw (r .end-y) (add-fits binary32 _ _) },
         )
 
-pub clipped-held : (f : Floor) (node : Node) (kind : SuccessorType) (interval seen : Segment) → HeldSegment interval → clipped f node kind interval ≡ Seen seen → HeldSegment seen
+pub clipped-held : (f : Floor) (node : Node) (kind : SuccessorType) (interval seen : Segment) → HeldSegment interval → clipped (f .vertices) node kind interval ≡ Seen seen → HeldSegment seen
 unfolding clipped
-clipped-held f node kind interval seen h e = go (not (node .seed) && sameOf (rootAfter f node kind) (node .root)) e
+clipped-held f node kind interval seen h e = go (not (node .seed) && sameOf (rootAfter (f .vertices) node kind) (node .root)) e
   where
     go : (b : Bool) → cond b (clipToConeOf (node .root) (node .interval) interval) (Seen interval) ≡ Seen seen → HeldSegment seen
     go true e = clip-held (node .root) (node .interval) interval seen h e

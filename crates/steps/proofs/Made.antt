@@ -9,8 +9,9 @@ use lib.Dec.{eqb}
 use Rattle.point.specs.declared.Segment.{Segment}
 use Rattle.cone.specs.declared.Clipped.{Clipped}
 use Rattle.cone.specs.declared.Clipped.the-variants.{Seen, Nothing}
-use Rattle.walk.specs.Round.{Successor}
+use Rattle.walk.specs.declared.Successor.{Successor}
 use Rattle.stored.specs.Stored.{Floor, unused, corner, neighbour, cornerAfter, polygon}
+use Rattle.edges.specs.Where.{isTurn}
 use Rattle.route.specs.declared.Step.{Step}
 use Rattle.route.specs.World.{_∈_}
 use Rattle.steps.specs.declared.Node.{Node}
@@ -28,8 +29,8 @@ pub record Over (f : Floor) (node : Node) (s : Successor) (t : Step) : Type 0 wh
   pub its-polygon : t .polygon ≡ neighbour (polygon f (node .polygon)) (s .edge)
   pub its-first : t .first ≡ corner (polygon f (node .polygon)) (s .edge)
   pub its-second : t .second ≡ cornerAfter (polygon f (node .polygon)) (s .edge)
-  pub allowed : isAllowed f node (s .part .kind) ≡ true
-  pub seen : clipped f node (s .part .kind) (s .part .interval) ≡ Seen (t .interval)
+  pub allowed : isAllowed (f .vertices) (isTurn f) node (s .part .kind) ≡ true
+  pub seen : clipped (f .vertices) node (s .part .kind) (s .part .interval) ≡ Seen (t .interval)
   pub interval : isInterval (t .interval) ≡ true
 
 -- No is not Yes
@@ -46,8 +47,8 @@ module _ (f : Floor) (node : Node) (s : Successor) (t : Step) where
     interval = interval;
   }
 
-  over : (interval : Segment) → eqb (neighbour (polygon f (node .polygon)) (s .edge)) unused ≡ false → isAllowed f node (s .part .kind) ≡ true
-      → clipped f node (s .part .kind) (s .part .interval) ≡ Seen interval → isInterval interval ≡ true → Yes (made interval) ≡ Yes t → Over f node s t
+  over : (interval : Segment) → eqb (neighbour (polygon f (node .polygon)) (s .edge)) unused ≡ false → isAllowed (f .vertices) (isTurn f) node (s .part .kind) ≡ true
+      → clipped (f .vertices) node (s .part .kind) (s .part .interval) ≡ Seen interval → isInterval interval ≡ true → Yes (made interval) ≡ Yes t → Over f node s t
   over interval u a c i e =
       let k : made interval ≡ t = cc in
       record {
@@ -63,14 +64,14 @@ module _ (f : Floor) (node : Node) (s : Successor) (t : Step) where
 
   pub yes-tells : stepOf f node s ≡ Yes t → Over f node s t
   unfolding stepOf
-  yes-tells e = go (eqb (neighbour (polygon f (node .polygon)) (s .edge)) unused) refl (isAllowed f node (s .part .kind)) refl (clipped f node (s .part .kind) (s .part .interval)) refl e
+  yes-tells e = go (eqb (neighbour (polygon f (node .polygon)) (s .edge)) unused) refl (isAllowed (f .vertices) (isTurn f) node (s .part .kind)) refl (clipped (f .vertices) node (s .part .kind) (s .part .interval)) refl e
     where
-      last : (interval : Segment) (b : Bool) → isInterval interval ≡ b → eqb (neighbour (polygon f (node .polygon)) (s .edge)) unused ≡ false → isAllowed f node (s .part .kind) ≡ true
-          → clipped f node (s .part .kind) (s .part .interval) ≡ Seen interval → cond (not b) No (Yes (made interval)) ≡ Yes t → Over f node s t
+      last : (interval : Segment) (b : Bool) → isInterval interval ≡ b → eqb (neighbour (polygon f (node .polygon)) (s .edge)) unused ≡ false → isAllowed (f .vertices) (isTurn f) node (s .part .kind) ≡ true
+          → clipped (f .vertices) node (s .part .kind) (s .part .interval) ≡ Seen interval → cond (not b) No (Yes (made interval)) ≡ Yes t → Over f node s t
       last interval true i u a c e = over interval u a c i e
       last interval false i u a c e = no-yes e
 
-      go : (b : Bool) → eqb (neighbour (polygon f (node .polygon)) (s .edge)) unused ≡ b → (a : Bool) → isAllowed f node (s .part .kind) ≡ a → (c : Clipped) → clipped f node (s .part .kind) (s .part .interval) ≡ c
+      go : (b : Bool) → eqb (neighbour (polygon f (node .polygon)) (s .edge)) unused ≡ b → (a : Bool) → isAllowed (f .vertices) (isTurn f) node (s .part .kind) ≡ a → (c : Clipped) → clipped (f .vertices) node (s .part .kind) (s .part .interval) ≡ c
           → cond b No (cond (not a) No (ifSeen c (λ interval. cond (not (isInterval interval)) No (Yes (made interval))))) ≡ Yes t → Over f node s t
       go true u a d c k e = no-yes e
       go false u false d c k e = no-yes e

@@ -11,12 +11,13 @@ use Rattle.word.specs.Word.{Bytes}
 use Rattle.word.proofs.Laws.{word-below}
 use Rattle.counts.specs.Counts.{table}
 use Rattle.counts.proofs.Laws.{getD-table, length-table}
-use Rattle.walk.specs.Round.{Successor}
-use Rattle.stored.specs.Stored.{Floor, Polygon, Question, unused, slotAt, polygonAt, floorOf, corner, neighbour, cornerAfter, polygon}
+use Rattle.walk.specs.declared.Successor.{Successor}
+use Rattle.stored.specs.Stored.{polygonIn, Floor, Polygon, Question, unused, slotAt, polygonAt, polygonsOf, floorOf, corner, neighbour, cornerAfter, polygon}
 use Rattle.route.specs.declared.Step.{Step}
 use Rattle.route.specs.Step.{Held}
 use Rattle.route.specs.World.{Lawful, _∈_}
 use Rattle.route.proofs.Bytes.{seed-is-32, end-is-32}
+use Rattle.steps.specs.declared.Trip.{Trip}
 use Rattle.steps.specs.declared.Node.{Node}
 use Rattle.steps.specs.declared.Permitted.the-variants.{Yes}
 use Rattle.steps.specs.Steps.{stepOf, stepsFrom, candidates}
@@ -65,7 +66,7 @@ module _ (s : ℕ) (vs ps : List ℕ) (bytes : Bytes ps) where
   no-slots = record { corner-u32 = λ i. omega arith; neighbour-u32 = λ i. omega arith }
 
   slots-u32 : (p : ℕ) → Slots (polygon f p)
-  unfolding polygon floorOf
+  unfolding polygonIn polygonsOf
   slots-u32 p = go (decLt p (length ps / (s * 8)))
     where
       unlisted : (p < length ps / (s * 8) → ⊥) → length (table (length ps / (s * 8)) (polygonAt s ps)) ≤ p
@@ -109,11 +110,11 @@ module _ (s : ℕ) (vs ps : List ℕ) (bytes : Bytes ps) where
   unfolding isInGoal stepsFrom
   goal-ends-here goal node e = rw e
 
-  pub lawful : (q : Question) (start goal : ℕ) → Lawful (worldIn f q start goal)
+  pub lawful : (trip : Trip) → Lawful (worldIn f trip)
   unfolding worldIn
-  lawful q start goal = record {
-    steps-held = steps-are-held goal;
-    seed-long = seed-is-32 start (q .start);
-    end-long = λ node. end-is-32 _ (q .goal) _;
-    goal-ends = goal-ends-here goal;
+  lawful trip = record {
+    steps-held = steps-are-held (trip .to);
+    seed-long = seed-is-32 (trip .from) (trip .start);
+    end-long = λ node. end-is-32 _ (trip .goal) _;
+    goal-ends = goal-ends-here (trip .to);
   }

@@ -14,8 +14,9 @@ use Rattle.cone.specs.Cone.{clipToConeOf}
 use Rattle.cone.specs.Landing.{landsOnOf}
 use Rattle.cut.specs.declared.SuccessorType.{SuccessorType}
 use Rattle.cut.specs.declared.SuccessorType.the-variants.{LeftNonObservable, Observable, RightNonObservable}
-use Rattle.walk.specs.Round.{Successor, successorsOf}
-use Rattle.stored.specs.Stored.{Floor, Polygon, unused, corner, neighbour, cornerCount, cornerAfter, polygon, vertex, edge}
+use Rattle.walk.specs.declared.Successor.{Successor}
+use Rattle.walk.specs.Round.{successorsOf}
+use Rattle.stored.specs.Stored.{Floor, Polygon, unused, corner, neighbour, cornerCount, cornerAfter, polygon, vertexIn, vertex, edge}
 use Rattle.edges.specs.Where.{isTurn}
 use Rattle.route.specs.declared.Step.{Step}
 use Rattle.steps.specs.declared.Node.{Node}
@@ -64,22 +65,22 @@ candidates f node = cond (node .seed) (wholeEdges f node) (successorsIn f node)
 
 -- ---- the step over one of them, or none
 
--- "allowed when the node's right (left) interval end lands on its entry edge's first (second) vertex and that is a turn vertex"
-unfoldable pub isAllowed : Floor → Node → SuccessorType → Bool
-isAllowed f node Observable = true
-isAllowed f node RightNonObservable = landsOnOf (node .interval .0) (vertex f (node .first)) (node .root) && isTurn f (node .first)
-isAllowed f node LeftNonObservable = landsOnOf (node .interval .1) (vertex f (node .second)) (node .root) && isTurn f (node .second)
+-- "allowed when the node's right (left) interval end lands on its entry edge's first (second) vertex and that is a turn vertex", one of these
+unfoldable pub isAllowed : List Point → (ℕ → Bool) → Node → SuccessorType → Bool
+isAllowed vertices turns node Observable = true
+isAllowed vertices turns node RightNonObservable = landsOnOf (node .interval .0) (vertexIn vertices (node .first)) (node .root) && turns (node .first)
+isAllowed vertices turns node LeftNonObservable = landsOnOf (node .interval .1) (vertexIn vertices (node .second)) (node .root) && turns (node .second)
 
 -- "root kept", or "which becomes the root"
-unfoldable pub rootAfter : Floor → Node → SuccessorType → Point
-rootAfter f node Observable = node .root
-rootAfter f node RightNonObservable = vertex f (node .first)
-rootAfter f node LeftNonObservable = vertex f (node .second)
+unfoldable pub rootAfter : List Point → Node → SuccessorType → Point
+rootAfter vertices node Observable = node .root
+rootAfter vertices node RightNonObservable = vertexIn vertices (node .first)
+rootAfter vertices node LeftNonObservable = vertexIn vertices (node .second)
 
 -- "If the root is unchanged by ==, and the node is not the seed, the interval is clipped; none is no step."
-unfoldable pub clipped : Floor → Node → SuccessorType → Segment → Clipped
-clipped f node kind interval =
-    cond (not (node .seed) && sameOf (rootAfter f node kind) (node .root)) (clipToConeOf (node .root) (node .interval) interval) (Seen interval)
+unfoldable pub clipped : List Point → Node → SuccessorType → Segment → Clipped
+clipped vertices node kind interval =
+    cond (not (node .seed) && sameOf (rootAfter vertices node kind) (node .root)) (clipToConeOf (node .root) (node .interval) interval) (Seen interval)
 
 abbrev pub ifSeen : Clipped → (Segment → Permitted) → Permitted
 ifSeen (Seen interval) step = step interval
@@ -91,8 +92,8 @@ stepOf f node s =
     let q = polygon f (node .polygon) in
     let kind = s .part .kind in
     cond (eqb (neighbour q (s .edge)) unused) No
-    (cond (not (isAllowed f node kind)) No
-    (ifSeen (clipped f node kind (s .part .interval))
+    (cond (not (isAllowed (f .vertices) (isTurn f) node kind)) No
+    (ifSeen (clipped (f .vertices) node kind (s .part .interval))
     (λ interval.
     cond (not (isInterval interval)) No
     (Yes (record { kind = kind; polygon = neighbour q (s .edge); first = corner q (s .edge); second = cornerAfter q (s .edge); interval = interval })))))
@@ -116,15 +117,26 @@ stepsFrom f goal node = cond (eqb (node .polygon) goal) [] (stepsOver f node (ca
 
 -- where every route begins: "root the start"
 unfoldable pub seedNode : Point → ℕ → Node
-seedNode start p = record { seed = true; polygon = p; first = 0; second = 0; interval = (start, start); root = start; length = zero; points = 0 }
+seedNode start p = record {
+  seed = true;
+  left = p;
+  polygon = p;
+  first = 0;
+  second = 0;
+  interval = (start, start);
+  root = start;
+  length = zero;
+  points = 0;
+}
 
 -- where a step leads to; "where the root changed by !=" the way has one more point, and one more leg
-unfoldable pub enter : Floor → Node → Step → Node
-enter f node step =
-    let root = rootAfter f node (step .kind) in
+unfoldable pub enter : List Point → Node → Step → Node
+enter vertices node step =
+    let root = rootAfter vertices node (step .kind) in
     let kept = sameOf root (node .root) in
     record {
       seed = false;
+      left = node .polygon;
       polygon = step .polygon;
       first = step .first;
       second = step .second;

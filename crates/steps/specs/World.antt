@@ -13,6 +13,7 @@ use Rattle.stored.specs.Stored.{Floor, Question}
 use Rattle.edges.specs.Where.{polygonOf}
 use Rattle.route.specs.Record.{seedBytes, endBytes}
 use Rattle.route.specs.World.{World}
+use Rattle.steps.specs.declared.Trip.{Trip}
 use Rattle.steps.specs.declared.Node.{Node}
 use Rattle.steps.specs.declared.Ending.{Ending}
 use Rattle.steps.specs.Steps.{stepsFrom, seedNode, enter}
@@ -32,17 +33,20 @@ endingOf goal node = cond (node .seed) (lastLeg goal node Straight) (lastLeg goa
 unfoldable pub isInGoal : ℕ → Node → Bool
 isInGoal goal node = eqb (node .polygon) goal
 
--- start and goal lie in these polygons
-unfoldable pub worldIn : Floor → Question → ℕ → ℕ → World Node
-worldIn f q start goal = record {
-  seed = seedNode (q .start) start;
-  stepsFrom = stepsFrom f goal;
-  enter = enter f;
-  inGoal = isInGoal goal;
-  seedBytes = seedBytes start (q .start);
-  endBytes = λ node. endBytes (endingOf (q .goal) node .points) (q .goal) (endingOf (q .goal) node .length);
+unfoldable pub worldIn : Floor → Trip → World Node
+worldIn f trip = record {
+  seed = seedNode (trip .start) (trip .from);
+  stepsFrom = stepsFrom f (trip .to);
+  enter = enter (f .vertices);
+  inGoal = isInGoal (trip .to);
+  seedBytes = seedBytes (trip .from) (trip .start);
+  endBytes = λ node. endBytes (endingOf (trip .goal) node .points) (trip .goal) (endingOf (trip .goal) node .length);
 }
+
+-- what is asked, once it is known in which polygons start and goal lie
+abbrev pub tripOf : Question → ℕ → ℕ → Trip
+tripOf q from to = record { start = q .start; goal = q .goal; from = from; to = to }
 
 -- "The lowest-numbered one counts."
 unfoldable pub worldOf : Floor → Question → World Node
-worldOf f q = worldIn f q (polygonOf f (q .start)) (polygonOf f (q .goal))
+worldOf f q = worldIn f (tripOf q (polygonOf f (q .start)) (polygonOf f (q .goal)))

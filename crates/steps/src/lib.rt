@@ -3,20 +3,29 @@
 ghost use mathlib.Core.Path.{_≡_};
 ghost use Prim.Native.Nat.{_+_, _*_, _/_, _≤_, _<_, _^_};
 ghost use lib.ListN.{length};
-ghost use Rattle.stored.specs.Stored.{floorOf};
+ghost use Rattle.stored.specs.Stored.{verticesOf, questionOf};
 ghost use Rattle.steps.specs.Steps.{seedNode, rootAfter, enter};
-ghost use Rattle.steps.specs.World.{endingOf};
+ghost use Rattle.steps.specs.World.{endingOf, tripOf};
 use cut::SuccessorType;
 use helpers::Turn;
 use point::Point;
 use point::Segment;
 use route::Step;
 
-// Where steps lead to: the polygon, the edge and the interval that it was entered by, the root, which is the last point
-// where the way turned, and how long the way to it is and how many points it has. The seed, where every route begins, was
-// entered by nothing.
+// What is asked of a floor: from a start in this polygon to a goal in that one.
+pub struct Trip {
+    pub start: Point,
+    pub goal: Point,
+    pub from: u32,
+    pub to: u32,
+}
+
+// Where steps lead to: the polygon, the one that was left for it, the edge and the interval that it was entered by, the root,
+// which is the last point where the way turned, and how long the way to it is and how many points it has. The seed, where every
+// route begins, was entered by nothing and has left no other polygon than its own.
 pub struct Node {
     pub seed: bool,
+    pub left: u32,
     pub polygon: u32,
     pub first: u32,
     pub second: u32,
@@ -38,12 +47,28 @@ pub enum Permitted {
     No,
 }
 
+impl Trip {
+    // What a question asks, once it is known in which polygons its start and its goal are.
+    pub fn of(question: &[u8], from: u32, to: u32) -> Trip
+        requires { ⌜ length (now question) ≡ 16 ⌝ }
+        ensures { λ r. ⌜ r ≡ tripOf (questionOf (now (question .entry))) from to ⌝ }
+    {
+        Trip {
+            start: stored::question_start(question),
+            goal: stored::question_goal(question),
+            from,
+            to,
+        }
+    }
+}
+
 impl Node {
     pub fn seed(start: Point, polygon: u32) -> Node
         ensures { λ r. ⌜ r ≡ seedNode start polygon ⌝ }
     {
         Node {
             seed: true,
+            left: polygon,
             polygon,
             first: 0,
             second: 0,
@@ -55,15 +80,9 @@ impl Node {
     }
 
     // The root after a step of this kind: the vertex that the way turns at, if it turns.
-    pub fn root_after(
-        self,
-        vertices: &[u8],
-        polygons: &[u8],
-        slots: usize,
-        kind: SuccessorType,
-    ) -> Point
+    pub fn root_after(self, vertices: &[u8], kind: SuccessorType) -> Point
         requires { ⌜ (self .first < length (now vertices) / 8) × (self .second < length (now vertices) / 8) ⌝ }
-        ensures { λ r. ⌜ r ≡ rootAfter (floorOf slots (now (vertices .entry)) (now (polygons .entry))) self kind ⌝ }
+        ensures { λ r. ⌜ r ≡ rootAfter (verticesOf (now (vertices .entry))) self kind ⌝ }
     {
         match kind {
             SuccessorType::Observable => self.root,
@@ -77,17 +96,18 @@ impl Node {
     }
 
     // Where a step leads to. Where the root is another one, the way has one more point and one more leg.
-    pub fn enter(self, vertices: &[u8], polygons: &[u8], slots: usize, step: Step) -> Node
+    pub fn enter(self, vertices: &[u8], step: Step) -> Node
         requires { ⌜ (self .first < length (now vertices) / 8) × (self .second < length (now vertices) / 8) × (self .points + 1 < 2 ^ 32) ⌝ }
-        ensures { λ r. ⌜ r ≡ enter (floorOf slots (now (vertices .entry)) (now (polygons .entry))) self step ⌝ }
+        ensures { λ r. ⌜ r ≡ enter (verticesOf (now (vertices .entry))) self step ⌝ }
     {
         let kind = step.kind;
         let interval = step.interval;
-        let root = self.root_after(vertices, polygons, slots, kind);
+        let root = self.root_after(vertices, kind);
         let old = self.root;
         if root.same(old) {
             return Node {
                 seed: false,
+                left: self.polygon,
                 polygon: step.polygon,
                 first: step.first,
                 second: step.second,
@@ -99,6 +119,7 @@ impl Node {
         }
         Node {
             seed: false,
+            left: self.polygon,
             polygon: step.polygon,
             first: step.first,
             second: step.second,

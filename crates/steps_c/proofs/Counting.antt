@@ -11,9 +11,10 @@ use Rattle.walk.specs.declared.Part.{Part}
 use Rattle.walk.specs.declared.Walked.{Walked}
 use Rattle.walk.specs.declared.round.Round.{Round}
 use Rattle.walk.specs.Walk.{partsOf, partAt}
-use Rattle.walk.specs.Round.{Successor, successorsOn}
+use Rattle.walk.specs.declared.Successor.{Successor}
+use Rattle.walk.specs.Round.{successorsOn}
 use Rattle.walk.specs.Turns.{isOverOf, edgeNumberOf, nextOf}
-use Rattle.stored.specs.Stored.{Floor, Polygon, floorOf, polygonAt}
+use Rattle.stored.specs.Stored.{Floor, Polygon, verticesOf, floorIn, recordIn}
 use Rattle.route.specs.declared.Step.{Step}
 use Rattle.steps.specs.declared.Node.{Node}
 use Rattle.view.specs.declared.View.{View}
@@ -21,6 +22,8 @@ use Rattle.steps.specs.declared.Permitted.{Permitted}
 use Rattle.steps.specs.declared.Permitted.the-variants.{Yes, No}
 use Rattle.steps.specs.Steps.{stepOf, andThen, stepsOver, stepsFrom}
 use Rattle.view.specs.View.{viewOf, stepBy}
+use Rattle.plan.specs.Plan.{isMarked}
+use Rattle.edges.specs.Ground.{Ground}
 use Rattle.going.specs.Going.{beginRound, walkedOn, leftIn, Yielded, Stands, Goes}
 use Rattle.going.proofs.Left.{next-part, no-part, left-begin, steps-left-next, left-over}
 use Rattle.going.proofs.Stepping.{step-on}
@@ -70,7 +73,7 @@ module _ (q : Polygon) (view : View) (i : ℕ) (walked : Walked) (yielded : Yiel
   unfolding countedOn
   parts-end l = inv ∙ ap (λ (parts : List Part). countedOn q view i parts rest) (no-part walked yielded j l)
 
-  module _ (l : j < walked .count) (p : Permitted) (counted : Counted) (e : p ≡ stepBy q view i (partAt (walked .parts) j)) (d : counted ≡ countedOf p rest) where
+  module _ (l : j < walked .count) (p : Permitted) (counted : Counted) (e : p ≡ stepBy q view (record { edge = i; part = partAt (walked .parts) j })) (d : counted ≡ countedOf p rest) where
     part-first : countedOn q view i (partsOf walked) k ≡ further counted (countedOn q view i (drop (suc j) (partsOf walked)))
     unfolding countedOn
     part-first = rw (d, e) (inv ∙ ap (λ (parts : List Part). countedOn q view i parts rest) (next-part walked yielded j l))
@@ -91,40 +94,42 @@ none-in-goal f goal node k e = rw (eq-eqb (node .polygon) goal e)
 abbrev pub Counted-in : Floor → ℕ → Node → ℕ → Round → ℕ → Type 0
 Counted-in f goal node k round left = kth (stepsFrom f goal node) k ≡ kth (stepsOver f node (leftIn f node round)) left
 
-module _ (s : ℕ) (vs ps : List ℕ) (node : Node) (h : Stands s vs ps node) (goal k : ℕ) where
+module _ (plan vs ps : List ℕ) (node : Node) (h : Stands plan vs ps node) (goal k : ℕ) where
   abbrev f : Floor
-  f = floorOf s vs ps
+  f = floorIn plan vs ps
 
   abbrev its : Polygon
-  its = polygonAt s ps (node .polygon)
+  its = recordIn plan ps (node .polygon)
 
   pub counting-begins : (node .polygon ≡ goal → ⊥) → Counted-in f goal node k (beginRound its node) k
   unfolding stepsFrom
-  counting-begins n = rw (ne-eqb (node .polygon) goal n, left-begin s vs ps node h)
+  counting-begins n = rw (ne-eqb (node .polygon) goal n, left-begin plan vs ps node h)
 
   -- what the view tells of an edge's parts is what the steps over them are
-  module _ (view : View) (v : view ≡ viewOf f node) (i : ℕ) (ys : List Step) where
-    on-edge : (parts : List Part) (left : ℕ) → kth (stepsOver f node (successorsOn i parts) ++ ys) left ≡ among (countedOn (polygonAt s ps (view .polygon)) view i parts left) ys
+  module _ (g : Ground plan vs ps) (view : View) (v : view ≡ viewOf (verticesOf vs) (isMarked plan) node) (i : ℕ) (ys : List Step) where
+    on-edge : (parts : List Part) (left : ℕ) → kth (stepsOver f node (successorsOn i parts) ++ ys) left ≡ among (countedOn (recordIn plan ps (view .polygon)) view i parts left) ys
     unfolding countedOn stepsOver
     on-edge [] left = refl
     on-edge (part ∷ parts) left =
-        rw (step-on s vs ps node h view i part _ v refl)
-        (kth-both (stepOf f node (record { edge = i; part = part })) (stepsOver f node (successorsOn i parts)) ys (countedOn (polygonAt s ps (view .polygon)) view i parts) (on-edge parts) left)
+        rw (step-on plan vs ps node h g view v (record { edge = i; part = part }) _ refl)
+        (kth-both (stepOf f node (record { edge = i; part = part })) (stepsOver f node (successorsOn i parts)) ys
+        (countedOn (recordIn plan ps (view .polygon)) view i parts) (on-edge parts) left)
 
   module _ (round : Round) (left : ℕ) (inv : Counted-in f goal node k round left) where
     pub counting-ends : isOverOf round ≡ true → kth (stepsFrom f goal node) k ≡ No
-    counting-ends o = inv ∙ ap (λ (l : List Successor). kth (stepsOver f node l) left) (left-over s vs ps node h round o) ∙ over-none f node left
+    counting-ends o = inv ∙ ap (λ (l : List Successor). kth (stepsOver f node l) left) (left-over plan vs ps node h round o) ∙ over-none f node left
 
-    module _ (goes : Goes its node round) (on : isOverOf round ≡ false) (view : View) (v : view ≡ viewOf f node) (walked : Walked) (w : walked ≡ walkedOn f node round)
-        (i : ℕ) (n : i ≡ edgeNumberOf round) (counted : Counted) (d : counted ≡ countedOn (polygonAt s ps (view .polygon)) view i (partsOf walked) left) where
+    module _ (g : Ground plan vs ps) (goes : Goes its node round) (on : isOverOf round ≡ false) (view : View)
+        (v : view ≡ viewOf (verticesOf vs) (isMarked plan) node) (walked : Walked) (w : walked ≡ walkedOn f node round)
+        (i : ℕ) (n : i ≡ edgeNumberOf round) (counted : Counted) (d : counted ≡ countedOn (recordIn plan ps (view .polygon)) view i (partsOf walked) left) where
       abbrev behind : List Step
       behind = stepsOver f node (leftIn f node (nextOf round (walked .kind)))
 
       -- what is left, the round's edge first
       edge-first : kth (stepsFrom f goal node) k ≡ among counted behind
       edge-first =
-          rw (d, ← on-edge view v i behind (partsOf walked) left, n, w)
-          (inv ∙ ap (λ (l : List Step). kth l left) (steps-left-next s vs ps node h round goes on))
+          rw (d, ← on-edge g view v i behind (partsOf walked) left, n, w)
+          (inv ∙ ap (λ (l : List Step). kth l left) (steps-left-next plan vs ps node h round goes on))
 
       pub counting-finds : (t : Step) → counted ≡ Here t → kth (stepsFrom f goal node) k ≡ Yes t
       counting-finds t e = edge-first ∙ ap (λ (c : Counted). among c behind) e

@@ -1,6 +1,5 @@
 -- A node for which the test holds stands on the floor. Assumes nothing.
-use Prim.Native.Nat.{ℕ, _*_, _/_, _<_}
-use native.Mathlib.Omega.{arith}
+use Prim.Native.Nat.{ℕ, _<_}
 use mathlib.Core.Path.{_≡_, refl, subst}
 use mathlib.Core.Bool.{Bool, true, false, _&&_, cond}
 use mathlib.Core.List.{List}
@@ -8,9 +7,10 @@ use borrow.Author.Tests.{ltb-true}
 use lib.Dec.{ltb}
 use lib.ListN.{length}
 use Rattle.float.proofs.Tests.{untrue}
-use Rattle.stored.specs.Stored.{Floor, Polygon, floorOf, polygon, cornerCount}
-use Rattle.faults.specs.Accepted.{Accepted}
-use Rattle.stored.proofs.Records.{polygon-count, vertex-count, polygon-is}
+use Rattle.plan.specs.Plan.{vertexCountIn, polygonCountIn}
+use Rattle.stored.specs.Stored.{Floor, Polygon, floorIn, polygonsIn, polygon, cornerCount}
+use Rattle.edges.specs.Ground.{Ground}
+use Rattle.stored.proofs.Records.{polygons-counted, polygon-read}
 use Rattle.edges.proofs.Inside.{listed-of}
 use Rattle.steps.specs.declared.Node.{Node}
 use Rattle.steps.specs.Steps.{placeOf, entryOf}
@@ -33,29 +33,32 @@ entered-true q node e other = ltb-true _ _ (rw other at e)
 
 -- ---- the node
 
-module _ (vs ps : List ℕ) (accepted : Accepted (floorOf 8 vs ps)) (node : Node) (on : isOn (floorOf 8 vs ps) node ≡ true) where
+module _ {plan vs ps : List ℕ} (g : Ground plan vs ps) (node : Node) (on : isOn (vertexCountIn plan) (polygonsIn plan ps) node ≡ true) where
   abbrev f : Floor
-  f = floorOf 8 vs ps
+  f = floorIn plan vs ps
 
   parts : (ltb (node .polygon) (length (f .polygons)) ≡ true)
-      × ((ltb (node .first) (length (f .vertices)) && (ltb (node .second) (length (f .vertices)) && isEntered (polygon f (node .polygon)) node)) ≡ true)
+      × ((ltb (node .first) (vertexCountIn plan) && (ltb (node .second) (vertexCountIn plan) && isEntered (polygon f (node .polygon)) node)) ≡ true)
   unfolding isOn
   parts = cond-true _ _ on
 
-  vertices-listed : (ltb (node .first) (length (f .vertices)) ≡ true) × ((ltb (node .second) (length (f .vertices)) && isEntered (polygon f (node .polygon)) node) ≡ true)
+  vertices-listed : (ltb (node .first) (vertexCountIn plan) ≡ true)
+      × ((ltb (node .second) (vertexCountIn plan) && isEntered (polygon f (node .polygon)) node) ≡ true)
   vertices-listed = and-true _ _ (parts .1)
 
-  second-listed : (ltb (node .second) (length (f .vertices)) ≡ true) × (isEntered (polygon f (node .polygon)) node ≡ true)
+  second-listed : (ltb (node .second) (vertexCountIn plan) ≡ true) × (isEntered (polygon f (node .polygon)) node ≡ true)
   second-listed = and-true _ _ (vertices-listed .1)
 
-  below : node .polygon < length ps / (8 * 8)
-  below = subst (λ (n : ℕ). node .polygon < n) (polygon-count 8 vs ps) (ltb-true _ _ (parts .0))
+  below : node .polygon < polygonCountIn plan
+  below = subst (λ (n : ℕ). node .polygon < n) (polygons-counted (g .polygons-planned)) (ltb-true _ _ (parts .0))
 
-  pub on-stands : Stands 8 vs ps node
+  pub on-stands : Stands plan vs ps node
   unfolding entryOf
   on-stands = record {
-    listed = listed-of 8 vs ps (omega arith) (omega arith) accepted (node .polygon) below;
-    first-listed = subst (λ (n : ℕ). node .first < n) (vertex-count 8 vs ps) (ltb-true _ _ (vertices-listed .0));
-    second-listed = subst (λ (n : ℕ). node .second < n) (vertex-count 8 vs ps) (ltb-true _ _ (second-listed .0));
-    entered = λ other. subst (λ (q : Polygon). placeOf (polygon f (node .polygon)) (cornerCount (polygon f (node .polygon))) (node .second) < cornerCount q) (polygon-is 8 vs ps (node .polygon) below) (entered-true (polygon f (node .polygon)) node (second-listed .1) other);
+    listed = listed-of g (node .polygon) below;
+    first-listed = ltb-true _ _ (vertices-listed .0);
+    second-listed = ltb-true _ _ (second-listed .0);
+    entered = λ other.
+        subst (λ (q : Polygon). placeOf (polygon f (node .polygon)) (cornerCount (polygon f (node .polygon))) (node .second) < cornerCount q)
+        (polygon-read (g .polygons-planned) (node .polygon) below) (entered-true (polygon f (node .polygon)) node (second-listed .1) other);
   }

@@ -5,10 +5,11 @@ use mathlib.Core.List.{List}
 use lib.Dec.{eqb, ltb}
 use lib.ListN.{length, getD}
 use Rattle.point.specs.Point.{zero, fromBitsOf}
+use Rattle.told.specs.Told.{numberOf}
 use Rattle.floor.specs.declared.FloorLook.{FloorLook}
 use Rattle.floor.specs.declared.FloorLook.the-variants.{Accepted, Faulty}
-use Rattle.stored.specs.Stored.{Floor, Polygon, floorOf, cornerCount, polygon}
-use Rattle.floor.specs.Look.{floorLookOf, refusalNumber}
+use Rattle.stored.specs.Stored.{Floor, Polygon, floorOf, cornerCount, polygonIn}
+use Rattle.floor.specs.Look.{floorLookOf, refusalTold}
 use Rattle.route.specs.Record.{stepWords}
 use Rattle.steps.specs.declared.Node.{Node}
 use Rattle.steps.specs.declared.Permitted.{Permitted}
@@ -24,6 +25,7 @@ use Rattle.steps_c.specs.Kth.{kth}
 unfoldable pub nodeOf : List ℕ → Node
 nodeOf words = record {
   seed = eqb (getD words 0 0) 1;
+  left = getD words 1 0;
   polygon = getD words 1 0;
   first = getD words 2 0;
   second = getD words 3 0;
@@ -37,11 +39,11 @@ nodeOf words = record {
 unfoldable pub isEntered : Polygon → Node → Bool
 isEntered q node = cond (node .seed) true (ltb (placeOf q (cornerCount q) (node .second)) (cornerCount q))
 
--- the node stands on the floor
-unfoldable pub isOn : Floor → Node → Bool
-isOn f node =
-    cond (ltb (node .polygon) (length (f .polygons)))
-    (ltb (node .first) (length (f .vertices)) && (ltb (node .second) (length (f .vertices)) && isEntered (polygon f (node .polygon)) node))
+-- the node stands on a floor of so many vertices
+unfoldable pub isOn : ℕ → List Polygon → Node → Bool
+isOn count polygons node =
+    cond (ltb (node .polygon) (length polygons))
+    (ltb (node .first) count && (ltb (node .second) count && isEntered (polygonIn polygons (node .polygon)) node))
     false
 
 -- ---- what comes of it
@@ -52,7 +54,7 @@ given No = NoMore
 
 -- step k out of the node, on a floor that was accepted
 unfoldable pub answerOn : Floor → ℕ → Node → ℕ → Answer
-answerOn f goal node k = cond (isOn f node) (given (kth (stepsFrom f goal node) k)) Nowhere
+answerOn f goal node k = cond (isOn (length (f .vertices)) (f .polygons) node) (given (kth (stepsFrom f goal node) k)) Nowhere
 
 abbrev pub answerIf : FloorLook → Answer → Answer
 answerIf Accepted answer = answer
@@ -68,7 +70,7 @@ unfoldable pub answerNumber : Answer → ℕ
 answerNumber (Given step) = 1
 answerNumber NoMore = 0
 answerNumber Nowhere = 100
-answerNumber (Refused r) = refusalNumber r
+answerNumber (Refused r) = numberOf (refusalTold r)
 
 -- the words of the step's record, or what stood there
 unfoldable pub answerWritten : Answer → List ℕ → List ℕ

@@ -31,4 +31,4 @@ further (Further k) next = next k
 -- the same of parts of edge i, one after the other
 unfoldable pub countedOn : Polygon → View → ℕ → List Part → ℕ → Counted
 countedOn q view i [] k = Further k
-countedOn q view i (part ∷ parts) k = further (countedOf (stepBy q view i part) k) (countedOn q view i parts)
+countedOn q view i (part ∷ parts) k = further (countedOf (stepBy q view (record { edge = i; part = part })) k) (countedOn q view i parts)

@@ -2,13 +2,12 @@
 // length. The function takes any bytes and any words.
 
 ghost use mathlib.Core.Path.{_≡_};
-ghost use Prim.Native.Nat.{_/_, _≤_};
-ghost use lib.ListN.{length};
-ghost use Rattle.stored.specs.Stored.{floorOf};
-ghost use Rattle.faults.specs.Accepted.{Accepted};
+ghost use Rattle.stored.specs.Stored.{floorIn};
+ghost use Rattle.edges.specs.Ground.{Ground};
 ghost use Rattle.steps_c.specs.Ask.{nodeOf, answerOn, answerOf, answerNumber, answerWritten};
 use floor::FloorLook;
 use floor::Refusal;
+use plan::PLAN;
 use point::Point;
 use point::Segment;
 use records::Record;
@@ -32,7 +31,7 @@ enum Answer {
 }
 
 // The node that ten words stand for: 1 for the seed, polygon, first, second, the bit patterns of the interval's four
-// coordinates and of the root's two. How long the way to it is decides no step.
+// coordinates and of the root's two. Which polygon was left and how long the way to it is decide no step.
 fn node_of(words: &[u32; 10]) -> Node
     ensures { λ r. ⌜ r ≡ nodeOf (now (words .entry)) ⌝ }
 {
@@ -41,6 +40,7 @@ fn node_of(words: &[u32; 10]) -> Node
     let root = Point::from_bits(words[8], words[9]);
     Node {
         seed: words[0] == 1,
+        left: words[1],
         polygon: words[1],
         first: words[2],
         second: words[3],
@@ -52,15 +52,21 @@ fn node_of(words: &[u32; 10]) -> Node
 }
 
 // Step k out of a node, on a floor that was accepted.
-fn answer_on(vertices: &[u8], polygons: &[u8], goal: u32, node: Node, k: usize) -> Answer
-    requires { ⌜ Accepted (floorOf 8 (now vertices) (now polygons)) × (length (now vertices) / 8 ≤ 1024) ⌝ }
-    ensures { λ r. ⌜ r ≡ answerOn (floorOf 8 (now (vertices .entry)) (now (polygons .entry))) goal node k ⌝ }
+fn answer_on(
+    vertices: &[u8],
+    polygons: &[u8],
+    plan: &[u32; PLAN],
+    goal: u32,
+    node: Node,
+    k: usize,
+) -> Answer
+    requires { ⌜ Ground (now plan) (now vertices) (now polygons) ⌝ }
+    ensures { λ r. ⌜ r ≡ answerOn (floorIn (now (plan .entry)) (now (vertices .entry)) (now (polygons .entry))) goal node k ⌝ }
 {
-    if !stand::is_on(vertices, polygons, node) {
+    if !stand::is_on(polygons, plan, node) {
         return Answer::Nowhere;
     }
-    let marks = edges::turns::turn_vertices(vertices, polygons, floor::SLOTS);
-    let permitted = kth::kth_step(vertices, polygons, &marks, goal, node, k);
+    let permitted = kth::kth_step(vertices, polygons, plan, goal, node, k);
     match permitted {
         Permitted::Yes(step) => Answer::Given(step),
         Permitted::No => Answer::NoMore,
@@ -70,8 +76,9 @@ fn answer_on(vertices: &[u8], polygons: &[u8], goal: u32, node: Node, k: usize) 
 fn ask(vertices: &[u8], polygons: &[u8], goal: u32, node: Node, k: usize) -> Answer
     ensures { λ r. ⌜ r ≡ answerOf (now (vertices .entry)) (now (polygons .entry)) goal node k ⌝ }
 {
-    match floor::look_at_floor(vertices, polygons) {
-        FloorLook::Accepted => answer_on(vertices, polygons, goal, node, k),
+    let mut plan = [0u32; PLAN];
+    match floor::look_at_floor(vertices, polygons, &mut plan) {
+        FloorLook::Accepted => answer_on(vertices, polygons, &plan, goal, node, k),
         FloorLook::Faulty(refusal) => Answer::Refused(refusal),
     }
 }
@@ -102,6 +109,6 @@ pub extern "C" fn steps_step(
         }
         Answer::NoMore => 0,
         Answer::Nowhere => 100,
-        Answer::Refused(refusal) => refusal.number(),
+        Answer::Refused(refusal) => refusal.told().number(),
     }
 }

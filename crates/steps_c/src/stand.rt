@@ -1,34 +1,34 @@
 // Whether a node stands on an accepted floor: what the steps ask of it.
 
 ghost use mathlib.Core.Path.{_≡_};
-ghost use Prim.Native.Nat.{_/_, _<_};
-ghost use lib.ListN.{length};
-ghost use Rattle.stored.specs.Stored.{floorOf, polygonAt};
+ghost use Rattle.plan.specs.Plan.{vertexCountIn};
+ghost use Rattle.stored.specs.Stored.{recordIn, polygonsIn, Lies, PolygonsPlanned};
 ghost use Rattle.steps_c.specs.Ask.{isEntered, isOn};
-use floor::SLOTS;
+use plan::PLAN;
 use steps::Node;
 
 // Whether the edge that the node was entered by is one of the polygon's. The seed was entered by none.
-fn is_entered(polygons: &[u8], node: Node) -> bool
-    requires { ⌜ node .polygon < length (now polygons) / 64 ⌝ }
-    ensures { λ r. ⌜ r ≡ isEntered (polygonAt 8 (now (polygons .entry)) (node .polygon)) node ⌝ }
+fn is_entered(polygons: &[u8], plan: &[u32; PLAN], node: Node) -> bool
+    requires { ⌜ Lies (now plan) (now polygons) (node .polygon) ⌝ }
+    ensures { λ r. ⌜ r ≡ isEntered (recordIn (now (plan .entry)) (now (polygons .entry)) (node .polygon)) node ⌝ }
 {
     if node.seed {
         return true;
     }
     let p = node.polygon as usize;
-    let n = stored::corner_count(polygons, SLOTS, p);
-    going::place_of(polygons, SLOTS, p, n, node.second) < n
+    let n = stored::corner_count(polygons, plan, p);
+    going::place_of(polygons, plan, p, n, node.second) < n
 }
 
 // The polygon is listed, and so are both vertices of the entry edge, which is one of the polygon's.
-pub fn is_on(vertices: &[u8], polygons: &[u8], node: Node) -> bool
-    ensures { λ r. ⌜ r ≡ isOn (floorOf 8 (now (vertices .entry)) (now (polygons .entry))) node ⌝ }
+pub fn is_on(polygons: &[u8], plan: &[u32; PLAN], node: Node) -> bool
+    requires { ⌜ PolygonsPlanned (now plan) (now polygons) ⌝ }
+    ensures { λ r. ⌜ r ≡ isOn (vertexCountIn (now (plan .entry))) (polygonsIn (now (plan .entry)) (now (polygons .entry))) node ⌝ }
 {
-    let count = vertices.len() / 8;
-    if (node.polygon as usize) < stored::polygon_count(polygons, SLOTS) {
+    let count = plan::vertex_count(plan);
+    if (node.polygon as usize) < plan::polygon_count(plan) {
         return (node.first as usize) < count
-            && ((node.second as usize) < count && is_entered(polygons, node));
+            && ((node.second as usize) < count && is_entered(polygons, plan, node));
     }
     false
 }

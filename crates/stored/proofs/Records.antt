@@ -9,8 +9,11 @@ use mathlib.Core.List.{List, []}
 use lib.Dec.{T, eqb}
 use lib.ListN.{length, getD, List·getD-eq-default}
 use Rattle.counts.specs.Counts.{table}
+use Rattle.word.specs.Word.{wordAt}
 use Rattle.counts.proofs.Laws.{length-table, getD-table, first-le, first-at, first-below}
-use Rattle.stored.specs.Stored.{unused, origin, vertexAt, slotAt, polygonAt, floorOf, corner, neighbour, cornerCount, polygon}
+use Rattle.point.specs.Point.{plusOf}
+use Rattle.plan.specs.Plan.{slotsIn, polygonCountIn}
+use Rattle.stored.specs.Stored.{unused, origin, vertexAt, slotAt, polygonAt, verticesOf, polygonsOf, corner, neighbour, cornerCount, polygonIn, vertexIn, recordIn, polygonsIn, Lies, PolygonsPlanned}
 
 -- record p is inside: as many bytes as its size stand from p times the size on
 whole : (L d p : ℕ) → p < L / d → (p + 1) * d ≤ L
@@ -22,6 +25,20 @@ vertex-inside L v h = omega arith
 module _ (L s p i : ℕ) (listed : p < L / (s * 8)) (slot : i < s + s) where
   pub slot-within : p * (s * 8) + i * 4 + 4 ≤ L
   slot-within = omega (arith, whole L (s * 8) p listed)
+
+-- by the number of slots that was read off a plan
+module _ {read s : ℕ} (e : read ≡ s) where
+  pub slot-within-by : (L p i : ℕ) → p < L / (s * 8) → i < s + s → p * (read * 8) + i * 4 + 4 ≤ L
+  slot-within-by L p i listed slot = subst (λ (k : ℕ). p * (k * 8) + i * 4 + 4 ≤ L) (sym e) (slot-within L s p i listed slot)
+
+  pub slot-read-by : (bytes : List ℕ) (p i : ℕ) {r : ℕ} → r ≡ wordAt bytes (p * (read * 8) + i * 4) → r ≡ slotAt s bytes p i
+  unfolding slotAt
+  slot-read-by bytes p i {r} = subst (λ (k : ℕ). r ≡ wordAt bytes (p * (k * 8) + i * 4) → r ≡ wordAt bytes (p * (s * 8) + i * 4)) (sym e) (λ h. h)
+
+  pub neighbour-read-by : (bytes : List ℕ) (p i : ℕ) {r : ℕ} → i < s → r ≡ slotAt s bytes p (read + i) → r ≡ neighbour (polygonAt s bytes p) i
+  unfolding neighbour polygonAt
+  neighbour-read-by bytes p i {r} h given =
+      subst (λ (k : ℕ). r ≡ slotAt s bytes p (k + i)) e given ∙ sym (getD-table s (λ k. slotAt s bytes p (s + k)) i unused h)
 
 module _ (s : ℕ) (bytes : List ℕ) (p i : ℕ) where
   pub corner-read : i < s → corner (polygonAt s bytes p) i ≡ slotAt s bytes p i
@@ -69,21 +86,40 @@ module _ (s : ℕ) (bytes : List ℕ) (p : ℕ) where
           let m : cornerCount (polygonAt s bytes p) ≤ j = omega (arith, h) in
           absurd (subst (λ (b : Bool). T (not b)) (sym (used (cornerCount (polygonAt s bytes p)) (omega (arith, m))) ∙ end m) tt)
 
--- ---- the floor that the lists stand for
+-- ---- what the lists stand for
 
-module _ (s : ℕ) (vs ps : List ℕ) where
-  pub polygon-count : length (floorOf s vs ps .polygons) ≡ length ps / (s * 8)
-  unfolding floorOf
+module _ (s : ℕ) (ps : List ℕ) where
+  pub polygon-count : length (polygonsOf s ps) ≡ length ps / (s * 8)
+  unfolding polygonsOf
   polygon-count = length-table (length ps / (s * 8)) (polygonAt s ps)
 
-  pub vertex-count : length (floorOf s vs ps .vertices) ≡ length vs / 8
-  unfolding floorOf
-  vertex-count = length-table (length vs / 8) (vertexAt vs)
-
-  pub polygon-is : (p : ℕ) → p < length ps / (s * 8) → polygon (floorOf s vs ps) p ≡ polygonAt s ps p
-  unfolding floorOf polygon
+  pub polygon-is : (p : ℕ) → p < length ps / (s * 8) → polygonIn (polygonsOf s ps) p ≡ polygonAt s ps p
+  unfolding polygonsOf polygonIn
   polygon-is p h = getD-table (length ps / (s * 8)) (polygonAt s ps) p (record { corners = []; neighbours = [] }) h
 
-  pub vertex-is : (v : ℕ) → v < length vs / 8 → getD (floorOf s vs ps .vertices) v origin ≡ vertexAt vs v
-  unfolding floorOf
+module _ (vs : List ℕ) where
+  pub vertex-count : length (verticesOf vs) ≡ length vs / 8
+  unfolding verticesOf
+  vertex-count = length-table (length vs / 8) (vertexAt vs)
+
+  pub vertex-is : (v : ℕ) → v < length vs / 8 → getD (verticesOf vs) v origin ≡ vertexAt vs v
+  unfolding verticesOf
   vertex-is v h = getD-table (length vs / 8) (vertexAt vs) v origin h
+
+  -- as it is used
+  pub vertex-used : (v : ℕ) → v < length vs / 8 → vertexIn (verticesOf vs) v ≡ plusOf (vertexAt vs v) origin
+  unfolding vertexIn
+  vertex-used v h = rw (vertex-is v h)
+
+-- ---- by a plan
+
+module _ {plan ps : List ℕ} (planned : PolygonsPlanned plan ps) where
+  pub lies : (p : ℕ) → p < polygonCountIn plan → Lies plan ps p
+  lies p h = (planned .few-slots, subst (λ (n : ℕ). p < n) (planned .counted) h)
+
+  -- the polygon itself, by its record
+  pub polygon-read : (p : ℕ) → p < polygonCountIn plan → polygonIn (polygonsIn plan ps) p ≡ recordIn plan ps p
+  polygon-read p h = polygon-is (slotsIn plan) ps p (lies p h .1)
+
+  pub polygons-counted : length (polygonsIn plan ps) ≡ polygonCountIn plan
+  polygons-counted = polygon-count (slotsIn plan) ps ∙ sym (planned .counted)

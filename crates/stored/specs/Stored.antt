@@ -1,12 +1,14 @@
 -- Document 01, "The floor, as stored": what the lent bytes of a floor and of a question stand for. Only the three readers of records know where a
 -- record's bytes are; everything else speaks of a floor's vertices and polygons. Assumes nothing.
-use Prim.Native.Nat.{ℕ, _+_, _*_, _/_}
+use Prim.Native.Nat.{ℕ, _+_, _*_, _/_, _≤_, _<_}
+use mathlib.Core.Path.{_≡_}
 use mathlib.Core.Bool.{Bool, cond}
 use mathlib.Core.List.{List, []}
 use lib.Dec.{ltb, eqb}
 use lib.ListN.{length, getD}
 use Rattle.counts.specs.Counts.{first, table}
 use Rattle.word.specs.Word.{wordAt}
+use Rattle.plan.specs.Plan.{slotsIn, vertexCountIn, polygonCountIn}
 use Rattle.point.specs.declared.Point.{Point}
 use Rattle.point.specs.declared.Segment.{Segment}
 use Rattle.point.specs.Point.{zero, pointOf, fromBitsOf, plusOf}
@@ -47,12 +49,16 @@ polygonAt slots bytes p = record {
 unfoldable pub questionOf : List ℕ → Question
 questionOf bytes = record { start = fromBitsOf (wordAt bytes 0) (wordAt bytes 4); goal = fromBitsOf (wordAt bytes 8) (wordAt bytes 12) }
 
--- the floor that two lists of bytes stand for: as many records as are whole
-unfoldable pub floorOf : ℕ → List ℕ → List ℕ → Floor
-floorOf slots vertices polygons = record {
-  vertices = table (length vertices / 8) (vertexAt vertices);
-  polygons = table (length polygons / (slots * 8)) (polygonAt slots polygons);
-}
+-- what a list of bytes stands for: as many records as are whole
+unfoldable pub verticesOf : List ℕ → List Point
+verticesOf bytes = table (length bytes / 8) (vertexAt bytes)
+
+unfoldable pub polygonsOf : ℕ → List ℕ → List Polygon
+polygonsOf slots bytes = table (length bytes / (slots * 8)) (polygonAt slots bytes)
+
+-- the floor that two lists of bytes stand for
+abbrev pub floorOf : ℕ → List ℕ → List ℕ → Floor
+floorOf slots vertices polygons = record { vertices = verticesOf vertices; polygons = polygonsOf slots polygons }
 
 -- ---- a polygon
 
@@ -70,21 +76,58 @@ cornerCount p = first (length (p .corners)) (λ i. eqb (corner p i) unused)
 unfoldable pub cornerAfter : Polygon → ℕ → ℕ
 cornerAfter p i = cond (eqb (corner p (i + 1)) unused) (corner p 0) (corner p (i + 1))
 
--- ---- looked up in a floor
+-- ---- looked up in a list, and in a floor
 
-unfoldable pub polygon : Floor → ℕ → Polygon
-polygon f p = getD (f .polygons) p (record { corners = []; neighbours = [] })
+unfoldable pub polygonIn : List Polygon → ℕ → Polygon
+polygonIn polygons p = getD polygons p (record { corners = []; neighbours = [] })
 
-unfoldable pub isListed : Floor → ℕ → Bool
-isListed f p = ltb p (length (f .polygons))
+abbrev pub polygon : Floor → ℕ → Polygon
+polygon f p = polygonIn (f .polygons) p
+
+unfoldable pub isListed : List Polygon → ℕ → Bool
+isListed polygons p = ltb p (length polygons)
 
 abbrev pub origin : Point
 origin = pointOf zero zero
 
 -- "A vertex is used as its coordinates plus 0.0 .. so −0.0 becomes +0.0."
-unfoldable pub vertex : Floor → ℕ → Point
-vertex f v = plusOf (getD (f .vertices) v origin) origin
+unfoldable pub vertexIn : List Point → ℕ → Point
+vertexIn vertices v = plusOf (getD vertices v origin) origin
+
+abbrev pub vertex : Floor → ℕ → Point
+vertex f v = vertexIn (f .vertices) v
 
 -- edge i of polygon p, from corner to corner
 unfoldable pub edge : Floor → ℕ → ℕ → Segment
 edge f p i = (vertex f (corner (polygon f p) i), vertex f (cornerAfter (polygon f p) i))
+
+-- ---- by a plan, which says how many slots a record has
+
+abbrev pub slotIn : List ℕ → List ℕ → ℕ → ℕ → ℕ
+slotIn plan bytes p i = slotAt (slotsIn plan) bytes p i
+
+abbrev pub recordIn : List ℕ → List ℕ → ℕ → Polygon
+recordIn plan bytes p = polygonAt (slotsIn plan) bytes p
+
+abbrev pub polygonsIn : List ℕ → List ℕ → List Polygon
+polygonsIn plan bytes = polygonsOf (slotsIn plan) bytes
+
+abbrev pub floorIn : List ℕ → List ℕ → List ℕ → Floor
+floorIn plan vertices polygons = floorOf (slotsIn plan) vertices polygons
+
+-- the record of polygon p lies in the list
+abbrev pub Lies : List ℕ → List ℕ → ℕ → Type 0
+Lies plan bytes p = (slotsIn plan ≤ 16) × (p < length bytes / (slotsIn plan * 8))
+
+-- ---- a plan of these lists, whose lengths the tests 2 and 3 have found right
+
+pub record VerticesPlanned (plan vertices : List ℕ) : Type 0 where
+  pub counted : vertexCountIn plan ≡ length vertices / 8
+  pub some : 1 ≤ length vertices / 8
+  pub few : length vertices / 8 ≤ 1024
+
+pub record PolygonsPlanned (plan polygons : List ℕ) : Type 0 where
+  pub some-slots : 0 < slotsIn plan
+  pub few-slots : slotsIn plan ≤ 16
+  pub counted : polygonCountIn plan ≡ length polygons / (slotsIn plan * 8)
+  pub few : length polygons / (slotsIn plan * 8) ≤ 512

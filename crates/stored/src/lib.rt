@@ -5,19 +5,13 @@ ghost use Prim.Native.Nat.{_+_, _*_, _/_, _≤_, _<_};
 ghost use mathlib.Core.Bool.{cond};
 ghost use lib.ListN.{length};
 ghost use Rattle.point.specs.Point.{plusOf};
-ghost use Rattle.stored.specs.Stored.{unused, origin, vertexAt, slotAt, polygonAt, questionOf, corner, neighbour, cornerCount, cornerAfter};
+ghost use Rattle.plan.specs.Plan.{slotsIn};
+ghost use Rattle.stored.specs.Stored.{unused, origin, vertexAt, slotIn, recordIn, questionOf, corner, neighbour, cornerCount, cornerAfter, Lies};
+use plan::PLAN;
 use point::Point;
 
 // No vertex and no polygon has this number: an unused slot, or a wall.
 pub const UNUSED: u32 = 0xFFFF_FFFF;
-
-// How many polygon records of that many slots are whole.
-pub fn polygon_count(polygons: &[u8], slots: usize) -> usize
-    requires { ⌜ (0 < slots) × (slots ≤ 16) ⌝ }
-    ensures { λ r. ⌜ r ≡ length (now (polygons .entry)) / (slots * 8) ⌝ }
-{
-    polygons.len() / (slots * 8)
-}
 
 // A vertex as it is stored.
 pub fn stored_vertex(vertices: &[u8], v: usize) -> Point
@@ -36,37 +30,38 @@ pub fn used_vertex(vertices: &[u8], v: usize) -> Point
 }
 
 // The number in a slot of a polygon's record: the corners' slots come first, then the neighbours'.
-pub fn slot(polygons: &[u8], slots: usize, p: usize, i: usize) -> u32
-    requires { ⌜ (slots ≤ 16) × (i < slots + slots) × (p < length (now polygons) / (slots * 8)) ⌝ }
-    ensures { λ r. ⌜ r ≡ slotAt slots (now (polygons .entry)) p i ⌝ }
+pub fn slot(polygons: &[u8], plan: &[u32; PLAN], p: usize, i: usize) -> u32
+    requires { ⌜ Lies (now plan) (now polygons) p × (i < slotsIn (now plan) + slotsIn (now plan)) ⌝ }
+    ensures { λ r. ⌜ r ≡ slotIn (now (plan .entry)) (now (polygons .entry)) p i ⌝ }
 {
-    word::read(polygons, p * (slots * 8) + i * 4)
+    word::read(polygons, p * (plan::slots(plan) * 8) + i * 4)
 }
 
 // The vertex number in a corner's slot.
-pub fn corner(polygons: &[u8], slots: usize, p: usize, i: usize) -> u32
-    requires { ⌜ (slots ≤ 16) × (i < slots) × (p < length (now polygons) / (slots * 8)) ⌝ }
-    ensures { λ r. ⌜ r ≡ corner (polygonAt slots (now (polygons .entry)) p) i ⌝ }
+pub fn corner(polygons: &[u8], plan: &[u32; PLAN], p: usize, i: usize) -> u32
+    requires { ⌜ Lies (now plan) (now polygons) p × (i < slotsIn (now plan)) ⌝ }
+    ensures { λ r. ⌜ r ≡ corner (recordIn (now (plan .entry)) (now (polygons .entry)) p) i ⌝ }
 {
-    slot(polygons, slots, p, i)
+    slot(polygons, plan, p, i)
 }
 
 // The polygon number in a neighbour's slot.
-pub fn neighbour(polygons: &[u8], slots: usize, p: usize, i: usize) -> u32
-    requires { ⌜ (slots ≤ 16) × (i < slots) × (p < length (now polygons) / (slots * 8)) ⌝ }
-    ensures { λ r. ⌜ r ≡ neighbour (polygonAt slots (now (polygons .entry)) p) i ⌝ }
+pub fn neighbour(polygons: &[u8], plan: &[u32; PLAN], p: usize, i: usize) -> u32
+    requires { ⌜ Lies (now plan) (now polygons) p × (i < slotsIn (now plan)) ⌝ }
+    ensures { λ r. ⌜ r ≡ neighbour (recordIn (now (plan .entry)) (now (polygons .entry)) p) i ⌝ }
 {
-    slot(polygons, slots, p, slots + i)
+    slot(polygons, plan, p, plan::slots(plan) + i)
 }
 
 // How many corners a polygon has: those before the first unused slot.
-pub fn corner_count(polygons: &[u8], slots: usize, p: usize) -> usize
-    requires { ⌜ (slots ≤ 16) × (p < length (now polygons) / (slots * 8)) ⌝ }
-    ensures { λ r. ⌜ (r ≡ cornerCount (polygonAt slots (now (polygons .entry)) p)) × (r ≤ slots) ⌝ }
+pub fn corner_count(polygons: &[u8], plan: &[u32; PLAN], p: usize) -> usize
+    requires { ⌜ Lies (now plan) (now polygons) p ⌝ }
+    ensures { λ r. ⌜ (r ≡ cornerCount (recordIn (now (plan .entry)) (now (polygons .entry)) p)) × (r ≤ slotsIn (now (plan .entry))) ⌝ }
 {
+    let slots = plan::slots(plan);
     let mut i = 0;
     while i < slots {
-        if corner(polygons, slots, p, i) == UNUSED {
+        if corner(polygons, plan, p, i) == UNUSED {
             return i;
         }
         i += 1;
@@ -75,16 +70,16 @@ pub fn corner_count(polygons: &[u8], slots: usize, p: usize) -> usize
 }
 
 // The corner behind corner i, and the first one behind the last.
-pub fn corner_after(polygons: &[u8], slots: usize, p: usize, i: usize) -> u32
-    requires { ⌜ (slots ≤ 16) × (i < slots) × (p < length (now polygons) / (slots * 8)) ⌝ }
-    ensures { λ r. ⌜ r ≡ cornerAfter (polygonAt slots (now (polygons .entry)) p) i ⌝ }
+pub fn corner_after(polygons: &[u8], plan: &[u32; PLAN], p: usize, i: usize) -> u32
+    requires { ⌜ Lies (now plan) (now polygons) p × (i < slotsIn (now plan)) ⌝ }
+    ensures { λ r. ⌜ r ≡ cornerAfter (recordIn (now (plan .entry)) (now (polygons .entry)) p) i ⌝ }
 {
-    if slots <= i + 1 {
-        return corner(polygons, slots, p, 0);
+    if plan::slots(plan) <= i + 1 {
+        return corner(polygons, plan, p, 0);
     }
-    let next = corner(polygons, slots, p, i + 1);
+    let next = corner(polygons, plan, p, i + 1);
     if next == UNUSED {
-        return corner(polygons, slots, p, 0);
+        return corner(polygons, plan, p, 0);
     }
     next
 }

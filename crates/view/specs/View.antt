@@ -2,6 +2,7 @@
 -- that the steps are document 01's. Assumes nothing.
 use Prim.Native.Nat.{ℕ}
 use mathlib.Core.Bool.{Bool, true, false, not, _&&_, cond}
+use mathlib.Core.List.{List}
 use lib.Dec.{eqb}
 use Rattle.point.specs.declared.Point.{Point}
 use Rattle.point.specs.declared.Segment.{Segment}
@@ -13,9 +14,8 @@ use Rattle.cone.specs.Cone.{coneOf, clipOf}
 use Rattle.cone.specs.Landing.{landsOnOf}
 use Rattle.cut.specs.declared.SuccessorType.{SuccessorType}
 use Rattle.cut.specs.declared.SuccessorType.the-variants.{LeftNonObservable, Observable, RightNonObservable}
-use Rattle.walk.specs.declared.Part.{Part}
-use Rattle.stored.specs.Stored.{Floor, Polygon, unused, corner, neighbour, cornerAfter, vertex}
-use Rattle.edges.specs.Where.{isTurn}
+use Rattle.walk.specs.declared.Successor.{Successor}
+use Rattle.stored.specs.Stored.{Polygon, unused, corner, neighbour, cornerAfter, vertexIn}
 use Rattle.steps.specs.declared.Node.{Node}
 use Rattle.view.specs.declared.Corner.{Corner}
 use Rattle.view.specs.declared.View.{View}
@@ -23,18 +23,18 @@ use Rattle.steps.specs.declared.Permitted.{Permitted}
 use Rattle.steps.specs.declared.Permitted.the-variants.{Yes, No}
 use Rattle.steps.specs.Steps.{isInterval, ifSeen}
 
--- a vertex of the entry edge, which the interval's end on that side may land on; it keeps the root where it is the root
-unfoldable pub cornerOn : Floor → ℕ → Point → Point → Corner
-cornerOn f v end root = record { allowed = landsOnOf end (vertex f v) root && isTurn f v; keeps = sameOf (vertex f v) root }
+-- a vertex of the entry edge, which the interval's end on that side may land on, and at which these turn; it keeps the root where it is the root
+unfoldable pub cornerOn : List Point → (ℕ → Bool) → ℕ → Point → Point → Corner
+cornerOn vertices turns v end root = record { allowed = landsOnOf end (vertexIn vertices v) root && turns v; keeps = sameOf (vertexIn vertices v) root }
 
-unfoldable pub viewOf : Floor → Node → View
-viewOf f node = record {
+unfoldable pub viewOf : List Point → (ℕ → Bool) → Node → View
+viewOf vertices turns node = record {
   seed = node .seed;
   polygon = node .polygon;
   keeps = sameOf (node .root) (node .root);
   cone = coneOf (node .root) (node .interval);
-  right = cornerOn f (node .first) (node .interval .0) (node .root);
-  left = cornerOn f (node .second) (node .interval .1) (node .root);
+  right = cornerOn vertices turns (node .first) (node .interval .0) (node .root);
+  left = cornerOn vertices turns (node .second) (node .interval .1) (node .root);
 }
 
 unfoldable pub allowsOf : View → SuccessorType → Bool
@@ -59,16 +59,16 @@ neighbourBy q view i kind = cond (allowsOf view kind) (neighbour q i) unused
 unfoldable pub clipIf : Bool → Cone → Segment → Clipped
 clipIf clips cone interval = cond clips (clipOf cone interval) (Seen interval)
 
--- the step over a part of edge i of the polygon, to the neighbour n, or none
-unfoldable pub overBy : Polygon → ℕ → ℕ → Part → Bool → Cone → Permitted
-overBy q i n part clips cone =
-    ifSeen (clipIf clips cone (part .interval))
+-- the step over a part of an edge of the polygon, to the neighbour n, or none
+unfoldable pub overBy : Polygon → ℕ → Successor → Bool → Cone → Permitted
+overBy q n s clips cone =
+    ifSeen (clipIf clips cone (s .part .interval))
     (λ interval.
     cond (not (isInterval interval)) No
-    (Yes (record { kind = part .kind; polygon = n; first = corner q i; second = cornerAfter q i; interval = interval })))
+    (Yes (record { kind = s .part .kind; polygon = n; first = corner q (s .edge); second = cornerAfter q (s .edge); interval = interval })))
 
--- the step over a part of edge i of the polygon, or none
-unfoldable pub stepBy : Polygon → View → ℕ → Part → Permitted
-stepBy q view i part =
-    let n = neighbourBy q view i (part .kind) in
-    cond (eqb n unused) No (overBy q i n part (clipsBy view (part .kind)) (view .cone))
+-- the step over a part of an edge of the polygon, or none
+unfoldable pub stepBy : Polygon → View → Successor → Permitted
+stepBy q view s =
+    let n = neighbourBy q view (s .edge) (s .part .kind) in
+    cond (eqb n unused) No (overBy q n s (clipsBy view (s .part .kind)) (view .cone))

@@ -1,22 +1,22 @@
 // What a node allows and sees, worked out once a node, and the step over a part of an edge.
 
 ghost use mathlib.Core.Path.{_≡_};
-ghost use Prim.Native.Nat.{_*_, _/_, _≤_, _<_};
-ghost use lib.ListN.{length};
-ghost use Rattle.stored.specs.Stored.{floorOf, polygonAt};
-ghost use Rattle.edges.specs.Where.{marksOf};
+ghost use Prim.Native.Nat.{_<_};
+ghost use Rattle.plan.specs.Plan.{slotsIn, vertexCountIn, isMarked};
+ghost use Rattle.stored.specs.Stored.{verticesOf, recordIn, Lies, VerticesPlanned};
 ghost use Rattle.steps.specs.Steps.{isFinite, isInterval};
 ghost use Rattle.view.specs.View.{cornerOn, viewOf, allowsOf, keepsBy, clipsBy, neighbourBy, clipIf, overBy, stepBy};
 use cone::Clipped;
 use cone::Cone;
 use cut::SuccessorType;
+use plan::PLAN;
 use point::Point;
 use point::Segment;
 use route::Step;
 use steps::Node;
 use steps::Permitted;
 use stored::UNUSED;
-use walk::Part;
+use walk::Successor;
 
 // A vertex of the entry edge: whether the way may turn there, and whether that keeps the root.
 pub struct Corner {
@@ -40,20 +40,12 @@ const LARGEST: f32 = 3.4028235e38;
 
 impl Corner {
     // The way may turn at a vertex that the interval's end lands on and that is a turn vertex.
-    fn new(
-        vertices: &[u8],
-        polygons: &[u8],
-        slots: usize,
-        marks: &[u32; 32],
-        v: u32,
-        end: Point,
-        root: Point,
-    ) -> Corner
-        requires { ⌜ (v < length (now vertices) / 8) × (length (now vertices) / 8 ≤ 1024) × (now marks ≡ marksOf (floorOf slots (now vertices) (now polygons))) ⌝ }
-        ensures { λ r. ⌜ r ≡ cornerOn (floorOf slots (now (vertices .entry)) (now (polygons .entry))) v end root ⌝ }
+    fn new(vertices: &[u8], plan: &[u32; PLAN], v: u32, end: Point, root: Point) -> Corner
+        requires { ⌜ VerticesPlanned (now plan) (now vertices) × (v < vertexCountIn (now plan)) ⌝ }
+        ensures { λ r. ⌜ r ≡ cornerOn (verticesOf (now (vertices .entry))) (isMarked (now (plan .entry))) v end root ⌝ }
     {
         let at = stored::used_vertex(vertices, v as usize);
-        let turns = edges::turns::turns(marks, v as usize);
+        let turns = plan::turns(plan, v as usize);
         let lands = cone::lands_on(end, at, root);
         let keeps = at.same(root);
         Corner {
@@ -64,37 +56,15 @@ impl Corner {
 }
 
 impl View {
-    // What a node of an accepted floor allows and sees.
-    pub fn new(
-        vertices: &[u8],
-        polygons: &[u8],
-        slots: usize,
-        marks: &[u32; 32],
-        node: Node,
-    ) -> View
-        requires { ⌜ (node .first < length (now vertices) / 8) × (node .second < length (now vertices) / 8) × (length (now vertices) / 8 ≤ 1024) × (now marks ≡ marksOf (floorOf slots (now vertices) (now polygons))) ⌝ }
-        ensures { λ r. ⌜ r ≡ viewOf (floorOf slots (now (vertices .entry)) (now (polygons .entry))) node ⌝ }
+    // What a node allows and sees, on the floor of this plan.
+    pub fn new(vertices: &[u8], plan: &[u32; PLAN], node: Node) -> View
+        requires { ⌜ VerticesPlanned (now plan) (now vertices) × (node .first < vertexCountIn (now plan)) × (node .second < vertexCountIn (now plan)) ⌝ }
+        ensures { λ r. ⌜ r ≡ viewOf (verticesOf (now (vertices .entry))) (isMarked (now (plan .entry))) node ⌝ }
     {
         let root = node.root;
         let interval = node.interval;
-        let right = Corner::new(
-            vertices,
-            polygons,
-            slots,
-            marks,
-            node.first,
-            interval.0,
-            root,
-        );
-        let left = Corner::new(
-            vertices,
-            polygons,
-            slots,
-            marks,
-            node.second,
-            interval.1,
-            root,
-        );
+        let right = Corner::new(vertices, plan, node.first, interval.0, root);
+        let left = Corner::new(vertices, plan, node.second, interval.1, root);
         let keeps = root.same(root);
         let cone = Cone::new(root, interval);
         View {
@@ -142,7 +112,7 @@ impl View {
     }
 
     // Whether the node sees a part of this kind through its interval. It does where it keeps its root; the seed has no interval.
-    pub fn clips(self, kind: SuccessorType) -> bool
+    fn clips(self, kind: SuccessorType) -> bool
         ensures { λ r. ⌜ r ≡ clipsBy self kind ⌝ }
     {
         if self.seed {
@@ -153,23 +123,25 @@ impl View {
 
     // The neighbour that a part of this kind of an edge may be stepped over to. At a wall, and where the kind is not allowed,
     // there is none.
-    pub fn neighbour(self, polygons: &[u8], slots: usize, edge: usize, kind: SuccessorType) -> u32
-        requires { ⌜ (slots ≤ 16) × (edge < slots) × (self .polygon < length (now polygons) / (slots * 8)) ⌝ }
-        ensures { λ r. ⌜ r ≡ neighbourBy (polygonAt slots (now (polygons .entry)) (self .polygon)) self edge kind ⌝ }
+    fn neighbour(self, polygons: &[u8], plan: &[u32; PLAN], edge: usize, kind: SuccessorType) -> u32
+        requires { ⌜ Lies (now plan) (now polygons) (self .polygon) × (edge < slotsIn (now plan)) ⌝ }
+        ensures { λ r. ⌜ r ≡ neighbourBy (recordIn (now (plan .entry)) (now (polygons .entry)) (self .polygon)) self edge kind ⌝ }
     {
         if self.allows(kind) {
-            return stored::neighbour(polygons, slots, self.polygon as usize, edge);
+            return stored::neighbour(polygons, plan, self.polygon as usize, edge);
         }
         UNUSED
     }
 
-    // The step over a part of an edge of the node's polygon, or none.
-    pub fn step(self, polygons: &[u8], slots: usize, edge: usize, part: Part) -> Permitted
-        requires { ⌜ (slots ≤ 16) × (edge < slots) × (self .polygon < length (now polygons) / (slots * 8)) ⌝ }
-        ensures { λ r. ⌜ r ≡ stepBy (polygonAt slots (now (polygons .entry)) (self .polygon)) self edge part ⌝ }
+    // The step over a part of an edge of the node's polygon, or none. It is asked for in two, the neighbour first: at a wall, and
+    // where the kind is not allowed, nothing is laid out for the clip.
+    pub fn step(self, polygons: &[u8], plan: &[u32; PLAN], successor: Successor) -> Permitted
+        requires { ⌜ Lies (now plan) (now polygons) (self .polygon) × (successor .edge < slotsIn (now plan)) ⌝ }
+        ensures { λ r. ⌜ r ≡ stepBy (recordIn (now (plan .entry)) (now (polygons .entry)) (self .polygon)) self successor ⌝ }
     {
+        let part = successor.part;
         let kind = part.kind;
-        let neighbour = self.neighbour(polygons, slots, edge, kind);
+        let neighbour = self.neighbour(polygons, plan, successor.edge, kind);
         if neighbour == UNUSED {
             return Permitted::No;
         }
@@ -177,11 +149,10 @@ impl View {
         let cone = self.cone;
         over(
             polygons,
-            slots,
+            plan,
             self.polygon,
-            edge,
             neighbour,
-            part,
+            successor,
             clips,
             cone,
         )
@@ -200,19 +171,20 @@ fn clip_if(clips: bool, cone: Cone, interval: Segment) -> Clipped
 
 // The step from a polygon to this neighbour over a part of their edge, or none. It takes the cone and no whole view, since
 // what a call takes is copied.
-pub fn over(
+fn over(
     polygons: &[u8],
-    slots: usize,
+    plan: &[u32; PLAN],
     polygon: u32,
-    edge: usize,
     neighbour: u32,
-    part: Part,
+    successor: Successor,
     clips: bool,
     cone: Cone,
 ) -> Permitted
-    requires { ⌜ (slots ≤ 16) × (edge < slots) × (polygon < length (now polygons) / (slots * 8)) ⌝ }
-    ensures { λ r. ⌜ r ≡ overBy (polygonAt slots (now (polygons .entry)) polygon) edge neighbour part clips cone ⌝ }
+    requires { ⌜ Lies (now plan) (now polygons) polygon × (successor .edge < slotsIn (now plan)) ⌝ }
+    ensures { λ r. ⌜ r ≡ overBy (recordIn (now (plan .entry)) (now (polygons .entry)) polygon) neighbour successor clips cone ⌝ }
 {
+    let edge = successor.edge;
+    let part = successor.part;
     let kind = part.kind;
     let clipped = clip_if(clips, cone, part.interval);
     match clipped {
@@ -221,8 +193,8 @@ pub fn over(
                 return Permitted::No;
             }
             let p = polygon as usize;
-            let first = stored::corner(polygons, slots, p, edge);
-            let second = stored::corner_after(polygons, slots, p, edge);
+            let first = stored::corner(polygons, plan, p, edge);
+            let second = stored::corner_after(polygons, plan, p, edge);
             Permitted::Yes(Step {
                 kind,
                 polygon: neighbour,

@@ -20,7 +20,7 @@ use Rattle.walk.specs.declared.Part.{Part}
 use Rattle.cut.specs.declared.Cut.{Cut}
 use Rattle.cut.specs.Cut.{firstCutOf, secondCutOf}
 use Rattle.walk.specs.Walk.{Walk, partOf, before, behind, cutOr, restOf, leftOf, walkEdgeOf, oneOf, twoOf, threeOf, held, walkedOf, partsOf, noPart, partAt}
-use Rattle.walk.specs.Round.{wrapped, edgeOf, afterEntry, edgesFrom, others, walkOf, successorsOf}
+use Rattle.walk.specs.Round.{wrapped, edgeOf, afterEntry, edgesFrom, others, VisitsTheOthersOnce, walkOf, successorsOf}
 use Rattle.walk.proofs.Wrap.{wrapped-cases, up-to-the-last, from-the-first, length-edges, edge-at}
 
 -- ---- one edge, by its cuts
@@ -169,14 +169,6 @@ module _ (root : Point) (interval : Segment) (corners : List Point) where
   at-most-21 entry h = omega (arith, at-most entry)
 
 -- ---- which edges
-
--- 01, The walk: "It begins after the entry edge and visits the n − 1 others once."
-pub record VisitsTheOthersOnce (n entry : ℕ) (visited : List ℕ) : Type 0 where
-  pub begins-after : 2 ≤ n → getD visited 0 0 ≡ wrapped n (entry + 1)
-  pub as-many : length visited ≡ n - 1
-  pub others-only : (k : ℕ) → k < length visited → (getD visited k 0 < n) × (getD visited k 0 ≡ entry → ⊥)
-  pub each : (i : ℕ) → i < n → (i ≡ entry → ⊥) → (k : ℕ) × (k < length visited) × (getD visited k 0 ≡ i)
-  pub none-twice : (j k : ℕ) → j < k → k < length visited → getD visited j 0 ≡ getD visited k 0 → ⊥
 
 module _ (n entry : ℕ) (listed : entry < n) where
   -- an edge after the entry edge is listed and is not the entry edge

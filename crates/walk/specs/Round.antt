@@ -1,6 +1,7 @@
 -- Round a polygon, as document 01 has it under "The walk": each edge but the entry edge in its turn, the kind going from one to the next. Rests on specs/Walk.
 -- Assumes nothing.
-use Prim.Native.Nat.{ℕ, zero, suc, _+_, _-_}
+use Prim.Native.Nat.{ℕ, zero, suc, _+_, _-_, _≤_, _<_}
+use mathlib.Core.Path.{_≡_}
 use mathlib.Core.Bool.{cond}
 use mathlib.Core.List.{List, [], _∷_, _++_, map}
 use lib.Dec.{ltb}
@@ -12,6 +13,7 @@ use Rattle.point.specs.Point.{pointOf}
 use Rattle.cut.specs.declared.SuccessorType.{SuccessorType}
 use Rattle.cut.specs.declared.SuccessorType.the-variants.{RightNonObservable}
 use Rattle.walk.specs.declared.Part.{Part}
+use Rattle.walk.specs.declared.Successor.{Successor}
 use Rattle.walk.specs.Walk.{walkEdgeOf}
 
 -- ---- edges
@@ -41,13 +43,17 @@ edgesFrom n entry i (suc k) = afterEntry n entry i ∷ edgesFrom n entry (suc i)
 unfoldable pub others : ℕ → ℕ → List ℕ
 others n entry = edgesFrom n entry 0 (n - 1)
 
+-- the same sentence of any list of edges, said without a wrap: proofs/Laws has it of `others`
+pub record VisitsTheOthersOnce (n entry : ℕ) (visited : List ℕ) : Type 0 where
+  pub begins-after : 2 ≤ n → getD visited 0 0 ≡ wrapped n (entry + 1)
+  pub as-many : length visited ≡ n - 1
+  pub others-only : (k : ℕ) → k < length visited → (getD visited k 0 < n) × (getD visited k 0 ≡ entry → ⊥)
+  pub each : (i : ℕ) → i < n → (i ≡ entry → ⊥) → (k : ℕ) × (k < length visited) × (getD visited k 0 ≡ i)
+  pub none-twice : (j k : ℕ) → j < k → k < length visited → getD visited j 0 ≡ getD visited k 0 → ⊥
+
 -- ---- the walk
 
 -- an interval of an edge, by the edge's number
-pub record Successor : Type 0 where
-  pub edge : ℕ
-  pub part : Part
-
 abbrev pub successorsOn : ℕ → List Part → List Successor
 successorsOn i parts = map (λ part. record { edge = i; part = part }) parts
 

@@ -11,7 +11,8 @@ use Rattle.cut.specs.declared.SuccessorType.{SuccessorType}
 use Rattle.cut.specs.declared.SuccessorType.the-variants.{RightNonObservable}
 use Rattle.walk.specs.declared.round.Round.{Round}
 use Rattle.walk.specs.Walk.{Walk, walkEdgeOf}
-use Rattle.walk.specs.Round.{edgeOf, afterEntry, edgesFrom, Successor, successorsOn, walkOf}
+use Rattle.walk.specs.declared.Successor.{Successor}
+use Rattle.walk.specs.Round.{edgeOf, afterEntry, edgesFrom, successorsOn, walkOf}
 
 -- ---- a round
 

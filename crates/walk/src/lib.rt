@@ -20,8 +20,14 @@ pub struct Part {
     pub kind: SuccessorType,
 }
 
-// What an edge yields: its first count parts, in order from its start to its end, and the kind to go on with. The last
-// part stands again in the places behind it.
+// A part of an edge, by the edge's number round its polygon.
+pub struct Successor {
+    pub edge: usize,
+    pub part: Part,
+}
+
+// What an edge yields: its first count parts, in order from its start to its end, and the kind to go on with. Whoever reads the
+// parts goes to the count; what stands behind it is no part.
 pub struct Walked {
     pub parts: [Part; 3],
     pub count: usize,

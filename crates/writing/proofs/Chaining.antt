@@ -11,14 +11,14 @@ use Rattle.route.specs.Record.{stepBytes, putRecord}
 use Rattle.records.specs.Records.{stepRecord, recordBytes}
 use Rattle.records.proofs.Stored.{step-record-bytes, put-keeps-length}
 use Rattle.places.specs.Layout.{stepIn, parentIn}
-use Rattle.writing.specs.Writing.{putChain, Row, Lies}
+use Rattle.writing.specs.Writing.{putChain, Row, ChainLies}
 
 module _ (floats : List Float) (words : List ℕ) where
-  pub row-of : (k place : ℕ) → 0 < k → Lies floats words k place → Row floats words place
+  pub row-of : (k place : ℕ) → 0 < k → ChainLies floats words k place → Row floats words place
   row-of zero place l h = absurd (omega arith)
   row-of (suc k) place l h = h .0
 
-  lies-on : (k place : ℕ) → 0 < k → Lies floats words k place → Lies floats words (k - 1) (parentIn words place)
+  lies-on : (k place : ℕ) → 0 < k → ChainLies floats words k place → ChainLies floats words (k - 1) (parentIn words place)
   lies-on zero place l h = absurd (omega arith)
   lies-on (suc k) place l h = let e : suc k - 1 ≡ k = omega arith in rw e (h .1)
 
@@ -35,12 +35,12 @@ module _ (floats : List Float) (words : List ℕ) where
   -- after some records of the chain that ends at i
   pub record Chaining (depth i : ℕ) (first : List ℕ) (out : List ℕ) (place k : ℕ) : Type 0 where
     pub left : putChain floats words depth i first ≡ putChain floats words k place out
-    pub lies : Lies floats words k place
+    pub lies : ChainLies floats words k place
     pub room : (k + 1) * 32 ≤ length out
     pub same : length out ≡ length first
 
   module _ (depth i : ℕ) (first : List ℕ) where
-    pub chaining-begins : Lies floats words depth i → (depth + 1) * 32 ≤ length first → Chaining depth i first first i depth
+    pub chaining-begins : ChainLies floats words depth i → (depth + 1) * 32 ≤ length first → Chaining depth i first first i depth
     chaining-begins h r = record { left = refl; lies = h; room = r; same = refl }
 
     pub chaining-goes-on : (out : List ℕ) (place k : ℕ) → Chaining depth i first out place k → 0 < k → (step : Step) (put : Record) (after : List ℕ) (parent : ℕ) → step ≡ stepIn floats words place → put ≡ stepRecord step → after ≡ putRecord out k (recordBytes put)

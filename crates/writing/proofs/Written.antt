@@ -14,11 +14,12 @@ use Rattle.route.specs.Record.{seedBytes, stepBytes, endBytes, putRecord}
 use Rattle.records.specs.Records.{seedRecord, endRecord, recordBytes}
 use Rattle.records.proofs.Stored.{seed-record-bytes, end-record-bytes, put-keeps-length}
 use Rattle.route.proofs.Bytes.{seed-is-32, step-is-32, end-is-32}
+use Rattle.steps.specs.declared.Trip.{Trip}
 use Rattle.steps.specs.declared.Node.{Node}
 use Rattle.steps.specs.Steps.{seedNode}
 use Rattle.steps.specs.World.{endingOf}
 use Rattle.places.specs.Layout.{Work, workOf, nodeIn, stepIn, parentIn, depthIn}
-use Rattle.writing.specs.Told.{toldOf, chainBytes, endAfter, routeBytes, straightBytes, written, told}
+use Rattle.writing.specs.Delivered.{deliveredOf, chainBytes, endAfter, routeBytes, straightBytes, written, delivered}
 use Rattle.writing.specs.declared.Answer.the-variants.{Found, NotFound, Full, Spent, Short}
 use Rattle.machine.specs.declared.Counts.{Counts}
 use Rattle.machine.specs.declared.Finish.{Finish}
@@ -75,16 +76,16 @@ unfolding endAfter
 end-long goal node = end-is-32 _ goal _
 
 -- the end, the steps and the seed
-module _ (floats : List Float) (words queue : List ℕ) (start : Point) (p : ℕ) (goal : Point) (node : Node) (depth i : ℕ) where
+module _ (floats : List Float) (words queue : List ℕ) (trip : Trip) (node : Node) (depth i : ℕ) where
   abbrev bytes : List ℕ
-  bytes = chainBytes (workOf floats words queue) (seedBytes p start) depth i ++ endAfter goal node
+  bytes = chainBytes (workOf floats words queue) (seedBytes (trip .from) (trip .start)) depth i ++ endAfter (trip .goal) node
 
   all-long : length bytes ≡ (depth + 2) * 32
-  all-long = length-append (chainBytes (workOf floats words queue) (seedBytes p start) depth i) (endAfter goal node) ∙ omega (arith, chain-long floats words queue (seedBytes p start) (seed-is-32 p start) depth i, end-long goal node)
+  all-long = length-append (chainBytes (workOf floats words queue) (seedBytes (trip .from) (trip .start)) depth i) (endAfter (trip .goal) node) ∙ omega (arith, chain-long floats words queue (seedBytes (trip .from) (trip .start)) (seed-is-32 (trip .from) (trip .start)) depth i, end-long (trip .goal) node)
 
-  all-put : (out : List ℕ) → (depth + 2) * 32 ≤ length out → putRecord (putChain floats words depth i (putRecord out (depth + 1) (endAfter goal node))) 0 (seedBytes p start) ≡ bytes ++ drop (length bytes) out
+  all-put : (out : List ℕ) → (depth + 2) * 32 ≤ length out → putRecord (putChain floats words depth i (putRecord out (depth + 1) (endAfter (trip .goal) node))) 0 (seedBytes (trip .from) (trip .start)) ≡ bytes ++ drop (length bytes) out
   all-put out room =
-      let last = endAfter goal node in
+      let last = endAfter (trip .goal) node in
       let front = take ((depth + 1) * 32) out in
       let after = drop ((depth + 1) * 32) out in
       let old = take 32 after in
@@ -93,51 +94,51 @@ module _ (floats : List Float) (words queue : List ℕ) (start : Point) (p : ℕ
       let after-long : length after ≡ length out - (depth + 1) * 32 = length-drop ((depth + 1) * 32) out in
       let old-long : length old ≡ 32 = length-take-le 32 after (omega (arith, after-long)) in
       let split : out ≡ front ++ (old ++ behind) = sym (take-append-drop ((depth + 1) * 32) out) ∙ ap (λ (x : List ℕ). front ++ x) (sym (take-append-drop 32 after)) in
-      let put : putRecord out (depth + 1) last ≡ front ++ (last ++ behind) = ap (λ (x : List ℕ). putRecord x (depth + 1) last) split ∙ put-between (depth + 1) front old behind last front-long old-long (end-long goal node) in
+      let put : putRecord out (depth + 1) last ≡ front ++ (last ++ behind) = ap (λ (x : List ℕ). putRecord x (depth + 1) last) split ∙ put-between (depth + 1) front old behind last front-long old-long (end-long (trip .goal) node) in
       let same : (depth + 1) * 32 + 32 ≡ length bytes = omega (arith, all-long) in
       let rest : behind ≡ drop (length bytes) out = drop-drop 32 ((depth + 1) * 32) out ∙ ap (λ (n : ℕ). drop n out) same in
-      ap (λ (x : List ℕ). putRecord (putChain floats words depth i x) 0 (seedBytes p start)) put
-      ∙ chain-put floats words queue (seedBytes p start) (seed-is-32 p start) depth i front (last ++ behind) front-long
-      ∙ sym (append-assoc (chainBytes (workOf floats words queue) (seedBytes p start) depth i) last behind)
+      ap (λ (x : List ℕ). putRecord (putChain floats words depth i x) 0 (seedBytes (trip .from) (trip .start))) put
+      ∙ chain-put floats words queue (seedBytes (trip .from) (trip .start)) (seed-is-32 (trip .from) (trip .start)) depth i front (last ++ behind) front-long
+      ∙ sym (append-assoc (chainBytes (workOf floats words queue) (seedBytes (trip .from) (trip .start)) depth i) last behind)
       ∙ ap (λ (x : List ℕ). bytes ++ x) rest
 
 -- ---- what the output holds then, and what is answered
 
-module _ (floats : List Float) (words queue : List ℕ) (start : Point) (p : ℕ) (goal : Point) (i steps : ℕ) (out : List ℕ) where
+module _ (floats : List Float) (words queue : List ℕ) (trip : Trip) (i steps : ℕ) (out : List ℕ) where
   abbrev route : List ℕ
-  route = routeBytes (workOf floats words queue) start p goal i
+  route = routeBytes (workOf floats words queue) trip i
 
   route-size : length route ≡ (depthIn words i + 2) * 32
   unfolding routeBytes
-  route-size = all-long floats words queue start p goal (nodeIn floats words i) (depthIn words i) i
+  route-size = all-long floats words queue trip (nodeIn floats words i) (depthIn words i) i
 
-  pub route-short : length out < (depthIn words i + 2) * 32 → written route steps out ≡ toldOf (Short steps) out
+  pub route-short : length out < (depthIn words i + 2) * 32 → written route steps out ≡ deliveredOf (Short steps) out
   unfolding written
   route-short l = rw (lt-ltb (length out) (length route) (omega (arith, route-size)))
 
   pub route-written : (depthIn words i + 2) * 32 ≤ length out
       → written route steps out
-      ≡ toldOf (Found steps ((depthIn words i + 2) * 32)) (putRecord (putChain floats words (depthIn words i) i (putRecord out (depthIn words i + 1) (endAfter goal (nodeIn floats words i)))) 0 (seedBytes p start))
+      ≡ deliveredOf (Found steps ((depthIn words i + 2) * 32)) (putRecord (putChain floats words (depthIn words i) i (putRecord out (depthIn words i + 1) (endAfter (trip .goal) (nodeIn floats words i)))) 0 (seedBytes (trip .from) (trip .start)))
   unfolding written routeBytes
   route-written l =
-      rw (le-ltb (length out) (length route) (omega (arith, route-size)), all-put floats words queue start p goal (nodeIn floats words i) (depthIn words i) i out l, route-size)
+      rw (le-ltb (length out) (length route) (omega (arith, route-size)), all-put floats words queue trip (nodeIn floats words i) (depthIn words i) i out l, route-size)
 
-module _ (start : Point) (p : ℕ) (goal : Point) (out : List ℕ) where
+module _ (trip : Trip) (out : List ℕ) where
   abbrev straight : List ℕ
-  straight = straightBytes start p goal
+  straight = straightBytes trip
 
   straight-size : length straight ≡ 2 * 32
   unfolding straightBytes
-  straight-size = length-append (seedBytes p start) (endAfter goal (seedNode start p)) ∙ omega (arith, seed-is-32 p start, end-long goal (seedNode start p))
+  straight-size = length-append (seedBytes (trip .from) (trip .start)) (endAfter (trip .goal) (seedNode (trip .start) (trip .from))) ∙ omega (arith, seed-is-32 (trip .from) (trip .start), end-long (trip .goal) (seedNode (trip .start) (trip .from)))
 
-  pub straight-short : length out < 2 * 32 → written straight 0 out ≡ toldOf (Short 0) out
+  pub straight-short : length out < 2 * 32 → written straight 0 out ≡ deliveredOf (Short 0) out
   unfolding written
   straight-short l = rw (lt-ltb (length out) (length straight) (omega (arith, straight-size)))
 
-  pub straight-written : 2 * 32 ≤ length out → written straight 0 out ≡ toldOf (Found 0 (2 * 32)) (putRecord (putRecord out 1 (endAfter goal (seedNode start p))) 0 (seedBytes p start))
+  pub straight-written : 2 * 32 ≤ length out → written straight 0 out ≡ deliveredOf (Found 0 (2 * 32)) (putRecord (putRecord out 1 (endAfter (trip .goal) (seedNode (trip .start) (trip .from)))) 0 (seedBytes (trip .from) (trip .start)))
   unfolding written straightBytes putChain chainBytes
   straight-written l =
-      rw (le-ltb (length out) (length straight) (omega (arith, straight-size)), all-put [] [] [] start p goal (seedNode start p) 0 0 out (omega arith), straight-size)
+      rw (le-ltb (length out) (length straight) (omega (arith, straight-size)), all-put [] [] [] trip (seedNode (trip .start) (trip .from)) 0 0 out (omega arith), straight-size)
 
 -- ---- by the records that the code makes
 
@@ -148,26 +149,26 @@ end-bytes goal node was last e h = ap recordBytes h ∙ end-record-bytes _ goal 
 seed-bytes : (p : ℕ) (start : Point) (seed : Record) → seed ≡ seedRecord p start → recordBytes seed ≡ seedBytes p start
 seed-bytes p start seed h = ap recordBytes h ∙ seed-record-bytes p start
 
-pub straight-told : (start : Point) (p : ℕ) (goal : Point) (out : List ℕ) (node : Node) (last seed : Record) (after end : List ℕ)
-    → 2 * 32 ≤ length out → node ≡ seedNode start p → last ≡ endRecord (endingOf goal node .points) goal (endingOf goal node .length) → after ≡ putRecord out 1 (recordBytes last)
-    → seed ≡ seedRecord p start → end ≡ putRecord after 0 (recordBytes seed) → written (straightBytes start p goal) 0 out ≡ toldOf (Found 0 (2 * 32)) end
-straight-told start p goal out node last seed after end l a b c d e =
-    let put : end ≡ putRecord (putRecord out 1 (endAfter goal (seedNode start p))) 0 (seedBytes p start) =
-    e ∙ rw (c, end-bytes goal node (seedNode start p) last a b, seed-bytes p start seed d) in
-    straight-written start p goal out l ∙ ap (toldOf (Found 0 (2 * 32))) (sym put)
+pub straight-told : (trip : Trip) (out : List ℕ) (node : Node) (last seed : Record) (after end : List ℕ)
+    → 2 * 32 ≤ length out → node ≡ seedNode (trip .start) (trip .from) → last ≡ endRecord (endingOf (trip .goal) node .points) (trip .goal) (endingOf (trip .goal) node .length) → after ≡ putRecord out 1 (recordBytes last)
+    → seed ≡ seedRecord (trip .from) (trip .start) → end ≡ putRecord after 0 (recordBytes seed) → written (straightBytes trip) 0 out ≡ deliveredOf (Found 0 (2 * 32)) end
+straight-told trip out node last seed after end l a b c d e =
+    let put : end ≡ putRecord (putRecord out 1 (endAfter (trip .goal) (seedNode (trip .start) (trip .from)))) 0 (seedBytes (trip .from) (trip .start)) =
+    e ∙ rw (c, end-bytes (trip .goal) node (seedNode (trip .start) (trip .from)) last a b, seed-bytes (trip .from) (trip .start) seed d) in
+    straight-written trip out l ∙ ap (deliveredOf (Found 0 (2 * 32))) (sym put)
 
-module _ (floats : List Float) (words queue : List ℕ) (start : Point) (p : ℕ) (goal : Point) (i steps : ℕ) (out : List ℕ) (depth : ℕ) (its-depth : depth ≡ depthIn words i) where
-  pub route-told-short : length out < (depth + 2) * 32 → written (routeBytes (workOf floats words queue) start p goal i) steps out ≡ toldOf (Short steps) out
-  route-told-short l = route-short floats words queue start p goal i steps out (rw its-depth at l)
+module _ (floats : List Float) (words queue : List ℕ) (trip : Trip) (i steps : ℕ) (out : List ℕ) (depth : ℕ) (its-depth : depth ≡ depthIn words i) where
+  pub route-told-short : length out < (depth + 2) * 32 → written (routeBytes (workOf floats words queue) trip i) steps out ≡ deliveredOf (Short steps) out
+  route-told-short l = route-short floats words queue trip i steps out (rw its-depth at l)
 
   pub route-told : (node : Node) (last seed : Record) (after chained end : List ℕ)
-      → (depth + 2) * 32 ≤ length out → node ≡ nodeIn floats words i → last ≡ endRecord (endingOf goal node .points) goal (endingOf goal node .length) → after ≡ putRecord out (depth + 1) (recordBytes last)
-      → chained ≡ putChain floats words depth i after → seed ≡ seedRecord p start → end ≡ putRecord chained 0 (recordBytes seed)
-      → written (routeBytes (workOf floats words queue) start p goal i) steps out ≡ toldOf (Found steps ((depth + 2) * 32)) end
+      → (depth + 2) * 32 ≤ length out → node ≡ nodeIn floats words i → last ≡ endRecord (endingOf (trip .goal) node .points) (trip .goal) (endingOf (trip .goal) node .length) → after ≡ putRecord out (depth + 1) (recordBytes last)
+      → chained ≡ putChain floats words depth i after → seed ≡ seedRecord (trip .from) (trip .start) → end ≡ putRecord chained 0 (recordBytes seed)
+      → written (routeBytes (workOf floats words queue) trip i) steps out ≡ deliveredOf (Found steps ((depth + 2) * 32)) end
   route-told node last seed after chained end l a b c d e g =
-      let put : end ≡ putRecord (putChain floats words depth i (putRecord out (depth + 1) (endAfter goal (nodeIn floats words i)))) 0 (seedBytes p start) =
-      g ∙ rw (d, c, end-bytes goal node (nodeIn floats words i) last a b, seed-bytes p start seed e) in
-      route-written floats words queue start p goal i steps out (rw its-depth at l) ∙ rw put (rw (← its-depth) refl)
+      let put : end ≡ putRecord (putChain floats words depth i (putRecord out (depth + 1) (endAfter (trip .goal) (nodeIn floats words i)))) 0 (seedBytes (trip .from) (trip .start)) =
+      g ∙ rw (d, c, end-bytes (trip .goal) node (nodeIn floats words i) last a b, seed-bytes (trip .from) (trip .start) seed e) in
+      route-written floats words queue trip i steps out (rw its-depth at l) ∙ rw put (rw (← its-depth) refl)
 
 pub seed-few : (start : Point) (p : ℕ) (node : Node) → node ≡ seedNode start p → node .points + 2 < 2 ^ 32
 seed-few start p node e = subst (λ (n : Node). n .points + 2 < 2 ^ 32) (sym e) none
@@ -181,19 +182,19 @@ room-kept out after i depth bytes e l = omega (arith, ap length e ∙ put-keeps-
 
 -- ---- how the search ended
 
-module _ (w : Work) (start : Point) (p : ℕ) (goal : Point) (counts : Counts) (finish : Finish) (out : List ℕ) where
-  pub told-arrived : (i : ℕ) → finish ≡ Arrived i → told start p goal (ending (stateOf w counts) finish) out ≡ written (routeBytes w start p goal i) (counts .pops) out
-  unfolding told
+module _ (w : Work) (trip : Trip) (counts : Counts) (finish : Finish) (out : List ℕ) where
+  pub told-arrived : (i : ℕ) → finish ≡ Arrived i → delivered trip (ending (stateOf w counts) finish) out ≡ written (routeBytes w trip i) (counts .pops) out
+  unfolding delivered
   told-arrived i e = rw e
 
-  pub told-emptied : finish ≡ Emptied → told start p goal (ending (stateOf w counts) finish) out ≡ toldOf (NotFound (counts .pops)) out
-  unfolding told
+  pub told-emptied : finish ≡ Emptied → delivered trip (ending (stateOf w counts) finish) out ≡ deliveredOf (NotFound (counts .pops)) out
+  unfolding delivered
   told-emptied e = rw e
 
-  pub told-filled : finish ≡ Filled → told start p goal (ending (stateOf w counts) finish) out ≡ toldOf (Full (counts .pops)) out
-  unfolding told
+  pub told-filled : finish ≡ Filled → delivered trip (ending (stateOf w counts) finish) out ≡ deliveredOf (Full (counts .pops)) out
+  unfolding delivered
   told-filled e = rw e
 
-  pub told-stopped : finish ≡ Stopped → told start p goal (ending (stateOf w counts) finish) out ≡ toldOf (Spent (counts .pops)) out
-  unfolding told
+  pub told-stopped : finish ≡ Stopped → delivered trip (ending (stateOf w counts) finish) out ≡ deliveredOf (Spent (counts .pops)) out
+  unfolding delivered
   told-stopped e = rw e

@@ -1,8 +1,11 @@
--- Document 01, "Numbers that come back": the number and the values that stand for each answer of a search. Definitions only. Assumes nothing.
+-- Document 01, "Numbers that come back": what is told of each answer of a search, and its counted steps. Definitions only. Assumes nothing.
 use Prim.Native.Nat.{ℕ}
-use mathlib.Core.List.{List, [], _∷_}
+use mathlib.Core.List.{List}
+use Rattle.told.specs.declared.Told.{Told}
+use Rattle.told.specs.declared.Told.the-variants.{Alone, WithCount}
+use Rattle.told.specs.Told.{numberOf, valuesOf}
 use Rattle.floor.specs.declared.Refusal.{Refusal}
-use Rattle.floor.specs.Look.{refusalNumber, refusalRecord}
+use Rattle.floor.specs.Look.{refusalTold}
 use Rattle.writing.specs.declared.Answer.{Answer}
 use Rattle.writing.specs.declared.Answer.the-variants.{Found, NotFound, Refused, NoPlaces, Full, Spent, Short}
 
@@ -10,25 +13,28 @@ use Rattle.writing.specs.declared.Answer.the-variants.{Found, NotFound, 
 abbrev pub refused : Refusal → Answer
 refused r = Refused r
 
--- the number in the table
-unfoldable pub answerNumber : Answer → ℕ
-answerNumber (Found steps bytes) = 0
-answerNumber (NotFound steps) = 1
-answerNumber (Refused r) = refusalNumber r
-answerNumber NoPlaces = 10
-answerNumber (Full steps) = 11
-answerNumber (Spent steps) = 12
-answerNumber (Short steps) = 13
+-- the table's number, and "on 0 the bytes written"
+unfoldable pub answerTold : Answer → Told
+-- "found, or accepted"
+answerTold (Found steps bytes) = WithCount 0 bytes
+-- "not found: queue empty"
+answerTold (NotFound steps) = Alone 1
+answerTold (Refused r) = refusalTold r
+-- "node places N is 0"
+answerTold NoPlaces = Alone 10
+-- "a node needs a place and none is left"
+answerTold (Full steps) = Alone 11
+-- "queue not empty, budget spent"
+answerTold (Spent steps) = Alone 12
+-- "output too short"
+answerTold (Short steps) = Alone 13
 
--- "4, 5, 6 .. also return the lowest record at fault"
-unfoldable pub answerRecord : Answer → List ℕ
-answerRecord (Found steps bytes) = []
-answerRecord (NotFound steps) = []
-answerRecord (Refused r) = refusalRecord r
-answerRecord NoPlaces = []
-answerRecord (Full steps) = []
-answerRecord (Spent steps) = []
-answerRecord (Short steps) = []
+abbrev pub answerNumber : Answer → ℕ
+answerNumber answer = numberOf (answerTold answer)
+
+-- the bytes written, or the record at fault
+abbrev pub answerValues : Answer → List ℕ
+answerValues answer = valuesOf (answerTold answer)
 
 -- "With every number the search returns its counted steps (0 up to 10)"
 unfoldable pub answerSteps : Answer → ℕ
@@ -39,13 +45,3 @@ answerSteps NoPlaces = 0
 answerSteps (Full steps) = steps
 answerSteps (Spent steps) = steps
 answerSteps (Short steps) = steps
-
--- "and on 0 the bytes written"
-unfoldable pub answerBytes : Answer → List ℕ
-answerBytes (Found steps bytes) = bytes ∷ []
-answerBytes (NotFound steps) = []
-answerBytes (Refused r) = []
-answerBytes NoPlaces = []
-answerBytes (Full steps) = []
-answerBytes (Spent steps) = []
-answerBytes (Short steps) = []

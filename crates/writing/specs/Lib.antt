@@ -1,4 +1,4 @@
 -- What a search answers, and the route's bytes.
 pub mod Answers
-pub mod Told
+pub mod Delivered
 pub mod Writing

@@ -22,14 +22,15 @@ pub record Row (floats : List Float) (words : List ℕ) (i : ℕ) : Type 0 where
   pub in-words : (i + 1) * 8 ≤ length words
 
 -- so has every place of the chain that ends there
-abbrev pub Lies : List Float → List ℕ → ℕ → ℕ → Type 0
-Lies floats words zero i = Unit {0}
-Lies floats words (suc depth) i = Row floats words i × Lies floats words depth (parentIn words i)
+abbrev pub ChainLies : List Float → List ℕ → ℕ → ℕ → Type 0
+ChainLies floats words zero i = Unit {0}
+ChainLies floats words (suc depth) i = Row floats words i × ChainLies floats words depth (parentIn words i)
 
 -- a route can be told from place i
 pub record Tellable (floats : List Float) (words : List ℕ) (i : ℕ) : Type 0 where
   pub row : Row floats words i
-  pub lies : Lies floats words (depthIn words i) i
+  pub parent-row : (parentIn words i + 1) * 8 ≤ length words
+  pub lies : ChainLies floats words (depthIn words i) i
   pub points-few : nodeIn floats words i .points + 2 < 2 ^ 32
 
 -- where a search ended it can be told

@@ -9,13 +9,12 @@ ghost use Rattle.records.specs.Records.{endRecord};
 ghost use Rattle.steps.specs.World.{endingOf};
 ghost use Rattle.places.specs.Layout.{workOf};
 ghost use Rattle.machine.specs.Search.{stateOf, ending};
-ghost use Rattle.writing.specs.Answers.{answerNumber};
-ghost use Rattle.writing.specs.Told.{written, routeBytes, straightBytes, told};
-ghost use Rattle.writing.specs.Writing.{putChain, Lies, Tellable, Tells};
+ghost use Rattle.writing.specs.Answers.{answerTold, answerSteps};
+ghost use Rattle.writing.specs.Delivered.{written, routeBytes, straightBytes, delivered};
+ghost use Rattle.writing.specs.Writing.{putChain, ChainLies, Tellable, Tells};
 use floor::Refusal;
 use machine::Ended;
 use machine::Finish;
-use machine::Task;
 use places::depth_at;
 use places::node_at;
 use places::parent_at;
@@ -23,6 +22,8 @@ use places::step_at;
 use point::Point;
 use records::Record;
 use steps::Node;
+use steps::Trip;
+use told::Told;
 
 // What a search answers. Each but Refused and NoPlaces has the counted steps, which are 0 for those two.
 pub enum Answer {
@@ -43,18 +44,17 @@ pub enum Answer {
 }
 
 // The record of the end after a node.
-fn end_after(task: Task, node: Node) -> Record
+fn end_after(goal: Point, node: Node) -> Record
     requires { ⌜ node .points + 2 < 2 ^ 32 ⌝ }
-    ensures { λ r. ⌜ r ≡ endRecord (endingOf (task .goal) node .points) (task .goal) (endingOf (task .goal) node .length) ⌝ }
+    ensures { λ r. ⌜ r ≡ endRecord (endingOf goal node .points) goal (endingOf goal node .length) ⌝ }
 {
-    let goal = task.goal;
     let ending = node.ending(goal);
     Record::end(ending.points, goal, ending.length)
 }
 
 // Writes the steps of the chain that ends at place i, the last one as record `depth`.
 fn write_chain(floats: &[f32], words: &[u32], i: usize, depth: usize, out: &mut [u8])
-    requires { ⌜ Lies (now floats) (now words) depth i × ((depth + 1) * 32 ≤ length (now out)) ⌝ }
+    requires { ⌜ ChainLies (now floats) (now words) depth i × ((depth + 1) * 32 ≤ length (now out)) ⌝ }
     ensures { λ _. ⌜ now (out .exit) ≡ putChain (now (floats .entry)) (now (words .entry)) depth i (now (out .entry)) ⌝ }
 {
     let mut place = i;
@@ -67,19 +67,18 @@ fn write_chain(floats: &[f32], words: &[u32], i: usize, depth: usize, out: &mut 
     }
 }
 
-// Writes the route that ends at place i, if there is room.
+// Writes the route of this trip that ends at place i, if there is room.
 fn write_route(
-    task: Task,
-    start: Point,
-    p: usize,
+    trip: Trip,
     i: usize,
     steps: usize,
     floats: &[f32],
     words: &[u32],
     out: &mut [u8],
 ) -> Answer
-    requires { ⌜ Tellable (now floats) (now words) i × (p < 2 ^ 32) ⌝ }
-    ensures { λ r. ⌜ ((queue : List ℕ) → r ≡ written (routeBytes (workOf (now (floats .entry)) (now (words .entry)) queue) start p (task .goal) i) steps (now (out .entry)) .answer) × ((queue : List ℕ) → now (out .exit) ≡ written (routeBytes (workOf (now (floats .entry)) (now (words .entry)) queue) start p (task .goal) i) steps (now (out .entry)) .out) ⌝ }
+    requires { ⌜ Tellable (now floats) (now words) i ⌝ }
+    ensures { λ r. ⌜ ((queue : List ℕ) → r ≡ written (routeBytes (workOf (now (floats .entry)) (now (words .entry)) queue) trip i) steps (now (out .entry)) .answer) ⌝ }
+    ensures { λ _. ⌜ ((queue : List ℕ) → now (out .exit) ≡ written (routeBytes (workOf (now (floats .entry)) (now (words .entry)) queue) trip i) steps (now (out .entry)) .out) ⌝ }
 {
     let depth = depth_at(words, i) as usize;
     let bytes = (depth + 2) * Record::BYTES;
@@ -87,45 +86,38 @@ fn write_route(
         return Answer::Short { steps };
     }
     let node = node_at(floats, words, i);
-    end_after(task, node).write(out, depth + 1);
+    end_after(trip.goal, node).write(out, depth + 1);
     write_chain(floats, words, i, depth, out);
-    Record::seed(p as u32, start).write(out, 0);
+    Record::seed(trip.from, trip.start).write(out, 0);
     Answer::Found { steps, bytes }
 }
 
 // Writes the route of no steps.
-pub fn write_straight(task: Task, start: Point, p: usize, out: &mut [u8]) -> Answer
-    requires { ⌜ p < 2 ^ 32 ⌝ }
-    ensures { λ r. ⌜ (r ≡ written (straightBytes start p (task .goal)) 0 (now (out .entry)) .answer) × (now (out .exit) ≡ written (straightBytes start p (task .goal)) 0 (now (out .entry)) .out) ⌝ }
+pub fn write_straight(trip: Trip, out: &mut [u8]) -> Answer
+    ensures { λ r. ⌜ r ≡ written (straightBytes trip) 0 (now (out .entry)) .answer ⌝ }
+    ensures { λ _. ⌜ now (out .exit) ≡ written (straightBytes trip) 0 (now (out .entry)) .out ⌝ }
 {
     let bytes = 2 * Record::BYTES;
     if out.len() < bytes {
         return Answer::Short { steps: 0 };
     }
-    let seed = Node::seed(start, p as u32);
-    end_after(task, seed).write(out, 1);
-    Record::seed(p as u32, start).write(out, 0);
+    let seed = Node::seed(trip.start, trip.from);
+    end_after(trip.goal, seed).write(out, 1);
+    Record::seed(trip.from, trip.start).write(out, 0);
     Answer::Found { steps: 0, bytes }
 }
 
 // Tells how the search ended, and writes the route if it arrived.
-pub fn tell(
-    task: Task,
-    start: Point,
-    p: usize,
-    ended: Ended,
-    floats: &[f32],
-    words: &[u32],
-    out: &mut [u8],
-) -> Answer
-    requires { ⌜ Tells (now floats) (now words) (ended .finish) × (p < 2 ^ 32) ⌝ }
-    ensures { λ r. ⌜ ((queue : List ℕ) → r ≡ told start p (task .goal) (ending (stateOf (workOf (now (floats .entry)) (now (words .entry)) queue) (ended .counts)) (ended .finish)) (now (out .entry)) .answer) × ((queue : List ℕ) → now (out .exit) ≡ told start p (task .goal) (ending (stateOf (workOf (now (floats .entry)) (now (words .entry)) queue) (ended .counts)) (ended .finish)) (now (out .entry)) .out) ⌝ }
+pub fn tell(trip: Trip, ended: Ended, floats: &[f32], words: &[u32], out: &mut [u8]) -> Answer
+    requires { ⌜ Tells (now floats) (now words) (ended .finish) ⌝ }
+    ensures { λ r. ⌜ ((queue : List ℕ) → r ≡ delivered trip (ending (stateOf (workOf (now (floats .entry)) (now (words .entry)) queue) (ended .counts)) (ended .finish)) (now (out .entry)) .answer) ⌝ }
+    ensures { λ _. ⌜ ((queue : List ℕ) → now (out .exit) ≡ delivered trip (ending (stateOf (workOf (now (floats .entry)) (now (words .entry)) queue) (ended .counts)) (ended .finish)) (now (out .entry)) .out) ⌝ }
 {
     let counts = ended.counts;
     let steps = counts.pops;
     let finish = ended.finish;
     match finish {
-        Finish::Arrived(i) => write_route(task, start, p, i, steps, floats, words, out),
+        Finish::Arrived(i) => write_route(trip, i, steps, floats, words, out),
         Finish::Emptied => Answer::NotFound { steps },
         Finish::Filled => Answer::Full { steps },
         Finish::Stopped => Answer::Spent { steps },
@@ -133,18 +125,33 @@ pub fn tell(
 }
 
 impl Answer {
-    // The number in document 01's table.
-    pub fn number(self) -> u32
-        ensures { λ r. ⌜ r ≡ answerNumber self ⌝ }
+    // The number in document 01's table, and the bytes written or the record at fault.
+    pub fn told(self) -> Told
+        ensures { λ r. ⌜ r ≡ answerTold self ⌝ }
     {
         match self {
-            Answer::Found { steps: _, bytes: _ } => 0,
-            Answer::NotFound { steps: _ } => 1,
-            Answer::Refused(refusal) => refusal.number(),
-            Answer::NoPlaces => 10,
-            Answer::Full { steps: _ } => 11,
-            Answer::Spent { steps: _ } => 12,
-            Answer::Short { steps: _ } => 13,
+            Answer::Found { steps: _, bytes } => Told::WithCount(0, bytes),
+            Answer::NotFound { steps: _ } => Told::Alone(1),
+            Answer::Refused(refusal) => refusal.told(),
+            Answer::NoPlaces => Told::Alone(10),
+            Answer::Full { steps: _ } => Told::Alone(11),
+            Answer::Spent { steps: _ } => Told::Alone(12),
+            Answer::Short { steps: _ } => Told::Alone(13),
+        }
+    }
+
+    // The counted steps, 0 for 2 to 10.
+    pub fn steps(self) -> usize
+        ensures { λ r. ⌜ r ≡ answerSteps self ⌝ }
+    {
+        match self {
+            Answer::Found { steps, bytes: _ } => steps,
+            Answer::NotFound { steps } => steps,
+            Answer::Refused(_) => 0,
+            Answer::NoPlaces => 0,
+            Answer::Full { steps } => steps,
+            Answer::Spent { steps } => steps,
+            Answer::Short { steps } => steps,
         }
     }
 }

@@ -4,12 +4,6 @@ use Rattle.cone.specs.Cone.{clipToConeOf}
 use Rattle.cone.proofs.clip_to_cone.Statement.{statement}
 use Rattle.cone.proofs.clip_to_cone.Tie as tie
 
-new-requires : tie.Need-new-requires
-new-requires c κs = search needs
-
-clip-requires : tie.Need-clip-requires
-clip-requires c κs = search needs
-
 returns : tie.Need-returns
 unfolding clipToConeOf
 returns c =
@@ -17,4 +11,4 @@ returns c =
     simp (c .clip .ensures, c1 .new .ensures)
 
 pub clip-to-cone-spec : {M : Type 1} → statement M
-clip-to-cone-spec = tie.close (tie.spec new-requires clip-requires returns)
+clip-to-cone-spec = tie.close (tie.spec (λ c κs. search needs) (λ c κs. search needs) returns)

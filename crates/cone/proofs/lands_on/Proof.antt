@@ -4,12 +4,9 @@ use Rattle.cone.specs.Landing.{landsOnOf}
 use Rattle.cone.proofs.lands_on.Statement.{statement}
 use Rattle.cone.proofs.lands_on.Tie as tie
 
-distance-squared-requires : tie.Need-distance-squared-requires
-distance-squared-requires c κs = search needs
-
 returns : tie.Need-returns
 unfolding landsOnOf
 returns c = simp (c .distance-squared .ensures)
 
 pub lands-on-spec : {M : Type 1} → statement M
-lands-on-spec = tie.close (tie.spec distance-squared-requires returns)
+lands-on-spec = tie.close (tie.spec (λ c κs. search needs) returns)

@@ -10,27 +10,6 @@ use Rattle.cone_c.specs.Clip.{segmentBits, clippedNumber, clippedWritten
 use Rattle.cone_c.proofs.geometry_clip_to_cone.Statement.{statement}
 use Rattle.cone_c.proofs.geometry_clip_to_cone.Tie as tie
 
-from-bits-requires : tie.Need-from-bits-requires
-from-bits-requires c κs = search needs
-
-segment-requires : tie.Need-segment-requires
-segment-requires c κs = search needs
-
-segment-requires-2 : tie.Need-segment-requires-2
-segment-requires-2 c κs = search needs
-
-clip-to-cone-requires : tie.Need-clip-to-cone-requires
-clip-to-cone-requires c κs = search needs
-
-enum-known-clipped : tie.Need-enum-known-clipped
-enum-known-clipped c = search needs
-
-put-segment-requires : tie.Need-put-segment-requires
-put-segment-requires c κs = search needs
-
-enum-told : tie.Need-enum-told
-enum-told c = search needs
-
 module _ {clipped : Clipped} {number : ℕ} {out : List ℕ} (before : List ℕ) where
   seen : {s : Segment} → clipped ≡ Seen s → number ≡ 1 → out ≡ segmentBits s → (number ≡ clippedNumber clipped) × (out ≡ clippedWritten clipped before)
   unfolding clippedNumber clippedWritten
@@ -47,7 +26,8 @@ returns c =
     let c6 = c5 .before in
     let c7 = c6 .before in
     let c8 = c7 .before in
-    seen _ (simp (c5 .clip-to-cone .ensures, c6 .segment2 .ensures, c7 .segment .ensures, c8 .from-bits .ensures) at (c3 .clipped .given .1)) refl (c .put-segment .ensures)
+    seen _ (simp (c5 .clip-to-cone .ensures, c6 .segment2 .ensures, c7 .segment .ensures, c8 .from-bits .ensures) at (c3 .clipped .given .1)) refl
+    (c .put-segment .ensures)
 
 returns-2 : tie.Need-returns-2
 returns-2 c =
@@ -58,4 +38,4 @@ returns-2 c =
     nothing _ (simp (c2 .clip-to-cone .ensures, c3 .segment2 .ensures, c4 .segment .ensures, c5 .from-bits .ensures) at (c .enum-told .given .1)) refl refl
 
 pub geometry-clip-to-cone-spec : {M : Type 1} → statement M
-geometry-clip-to-cone-spec = tie.close (tie.spec from-bits-requires segment-requires segment-requires-2 clip-to-cone-requires enum-known-clipped put-segment-requires enum-told returns returns-2)
+geometry-clip-to-cone-spec = tie.close (tie.spec (λ c κs. search needs) (λ c κs. search needs) (λ c κs. search needs) (λ c κs. search needs) (λ c. search needs) (λ c κs. search needs) (λ c. search needs) returns returns-2)

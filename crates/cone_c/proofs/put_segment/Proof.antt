@@ -4,18 +4,6 @@ use Rattle.cone_c.specs.Clip.{segmentBits}
 use Rattle.cone_c.proofs.put_segment.Statement.{statement}
 use Rattle.cone_c.proofs.put_segment.Tie as tie
 
-to-bits-requires : tie.Need-to-bits-requires
-to-bits-requires c κs = search needs
-
-to-bits-requires-2 : tie.Need-to-bits-requires-2
-to-bits-requires-2 c κs = search needs
-
-to-bits-requires-3 : tie.Need-to-bits-requires-3
-to-bits-requires-3 c κs = search needs
-
-to-bits-requires-4 : tie.Need-to-bits-requires-4
-to-bits-requires-4 c κs = search needs
-
 returns : tie.Need-returns
 unfolding segmentBits
 returns c =
@@ -26,4 +14,4 @@ returns c =
     simp (c1 .to-bits4 .ensures, c2 .to-bits3 .ensures, c3 .to-bits2 .ensures, c4 .to-bits .ensures)
 
 pub put-segment-spec : {M : Type 1} → statement M
-put-segment-spec = tie.close (tie.spec to-bits-requires to-bits-requires-2 to-bits-requires-3 to-bits-requires-4 returns)
+put-segment-spec = tie.close (tie.spec (λ c κs. search needs) (λ c κs. search needs) (λ c κs. search needs) (λ c κs. search needs) returns)

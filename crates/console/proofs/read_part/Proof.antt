@@ -12,20 +12,8 @@ use Rattle.console.proofs.read_part.Tie as tie
 counted : (n : ℕ) (room : List ℕ) → n ≤ length room → Counts n room
 counted n room h = (h, sym (length-take-le _ _ h))
 
-at-most-requires : tie.Need-at-most-requires
-at-most-requires c κs = search needs
-
-slice-relend-prefix-read-full : tie.Need-slice-relend-prefix-read-full
-slice-relend-prefix-read-full c = search needs
-
 slice-aggregate-read-full : tie.Need-slice-aggregate-read-full
 slice-aggregate-read-full c = sym (length-take-le _ _ (c .before .at-most .ensures .1))
-
-read-full-requires : tie.Need-read-full-requires
-read-full-requires c κs = search needs
-
-same-length : tie.Need-same-length
-same-length c = search needs
 
 returns : tie.Need-returns
 returns c = counted _ _ (search needs)
@@ -34,9 +22,9 @@ pub read-part-spec : {M : Type 1} → statement M
 read-part-spec =
     tie.close
     (tie.spec
-    at-most-requires
-    slice-relend-prefix-read-full
+    (λ c κs. search needs)
+    (λ c. search needs)
     slice-aggregate-read-full
-    read-full-requires
-    same-length
+    (λ c κs. search needs)
+    (λ c. search needs)
     returns)

@@ -5,12 +5,6 @@ use Rattle.cut.specs.Cut.{apartFromBothOf}
 use Rattle.cut.proofs.apart_from_both.Statement.{statement}
 use Rattle.cut.proofs.apart_from_both.Tie as tie
 
-told-apart-requires : tie.Need-told-apart-requires
-told-apart-requires c κs = search needs
-
-told-apart-requires-2 : tie.Need-told-apart-requires-2
-told-apart-requires-2 c κs = search needs
-
 returns : tie.Need-returns
 unfolding apartFromBothOf
 returns c =
@@ -25,4 +19,4 @@ returns-2 c =
     and-left _ _ (simp (c1 .told-apart .ensures) at (c .if1 .left)) (c .if1 .left)
 
 pub apart-from-both-spec : {M : Type 1} → statement M
-apart-from-both-spec = tie.close (tie.spec told-apart-requires told-apart-requires-2 returns returns-2)
+apart-from-both-spec = tie.close (tie.spec (λ c κs. search needs) (λ c κs. search needs) returns returns-2)

@@ -5,48 +5,6 @@ use Rattle.cut.specs.Cut.{secondCutOf}
 use Rattle.cut.proofs.second_cut.Statement.{statement}
 use Rattle.cut.proofs.second_cut.Tie as tie
 
-side-requires : tie.Need-side-requires
-side-requires c κs = search needs
-
-enum-told : tie.Need-enum-told
-enum-told c = search needs
-
-line-intersect-segment-requires : tie.Need-line-intersect-segment-requires
-line-intersect-segment-requires c κs = search needs
-
-enum-known-crossing : tie.Need-enum-known-crossing
-enum-known-crossing c = search needs
-
-told-apart-requires : tie.Need-told-apart-requires
-told-apart-requires c κs = search needs
-
-cut-if-requires : tie.Need-cut-if-requires
-cut-if-requires c κs = search needs
-
-enum-told-2 : tie.Need-enum-told-2
-enum-told-2 c = search needs
-
-nowhere-requires : tie.Need-nowhere-requires
-nowhere-requires c κs = search needs
-
-enum-told-3 : tie.Need-enum-told-3
-enum-told-3 c = search needs
-
-side-requires-2 : tie.Need-side-requires-2
-side-requires-2 c κs = search needs
-
-unless-right-requires : tie.Need-unless-right-requires
-unless-right-requires c κs = search needs
-
-nowhere-requires-2 : tie.Need-nowhere-requires-2
-nowhere-requires-2 c κs = search needs
-
-enum-told-4 : tie.Need-enum-told-4
-enum-told-4 c = search needs
-
-nowhere-requires-3 : tie.Need-nowhere-requires-3
-nowhere-requires-3 c κs = search needs
-
 returns : tie.Need-returns
 unfolding secondCutOf
 returns c =
@@ -85,4 +43,4 @@ returns-4 c =
     on-right _ _ _ _ (found (c3 .side .ensures) (c1 .enum-told4 .given .1)) (c .nowhere3 .ensures)
 
 pub second-cut-spec : {M : Type 1} → statement M
-second-cut-spec = tie.close (tie.spec side-requires enum-told line-intersect-segment-requires enum-known-crossing told-apart-requires cut-if-requires enum-told-2 nowhere-requires enum-told-3 side-requires-2 unless-right-requires nowhere-requires-2 enum-told-4 nowhere-requires-3 returns returns-2 returns-3 returns-4)
+second-cut-spec = tie.close (tie.spec (λ c κs. search needs) (λ c. search needs) (λ c κs. search needs) (λ c. search needs) (λ c κs. search needs) (λ c κs. search needs) (λ c. search needs) (λ c κs. search needs) (λ c. search needs) (λ c κs. search needs) (λ c κs. search needs) (λ c κs. search needs) (λ c. search needs) (λ c κs. search needs) returns returns-2 returns-3 returns-4)

@@ -4,15 +4,6 @@ use Rattle.cut.specs.Cut.{seenFromRightOf}
 use Rattle.cut.proofs.seen_from_right.Statement.{statement}
 use Rattle.cut.proofs.seen_from_right.Tie as tie
 
-enum-told : tie.Need-enum-told
-enum-told c = search needs
-
-enum-told-2 : tie.Need-enum-told-2
-enum-told-2 c = search needs
-
-enum-told-3 : tie.Need-enum-told-3
-enum-told-3 c = search needs
-
 returns : tie.Need-returns
 unfolding seenFromRightOf
 returns c = rw (c .enum-told .given .1)
@@ -26,4 +17,4 @@ unfolding seenFromRightOf
 returns-3 c = rw (c .enum-told3 .given .1)
 
 pub seen-from-right-spec : {M : Type 1} → statement M
-seen-from-right-spec = tie.close (tie.spec enum-told enum-told-2 enum-told-3 returns returns-2 returns-3)
+seen-from-right-spec = tie.close (tie.spec (λ c. search needs) (λ c. search needs) (λ c. search needs) returns returns-2 returns-3)

@@ -4,12 +4,9 @@ use Rattle.cut.specs.Cut.{toldApartOf}
 use Rattle.cut.proofs.told_apart.Statement.{statement}
 use Rattle.cut.proofs.told_apart.Tie as tie
 
-distance-squared-requires : tie.Need-distance-squared-requires
-distance-squared-requires c κs = search needs
-
 returns : tie.Need-returns
 unfolding toldApartOf
 returns c = simp (c .distance-squared .ensures)
 
 pub told-apart-spec : {M : Type 1} → statement M
-told-apart-spec = tie.close (tie.spec distance-squared-requires returns)
+told-apart-spec = tie.close (tie.spec (λ c κs. search needs) returns)

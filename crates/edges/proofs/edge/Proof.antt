@@ -1,40 +1,53 @@
-use mathlib.Core.Path.{refl}
 -- `edges::edge` meets its contract: both vertices of an edge are inside the vertex list. Assumes nothing.
+use mathlib.Core.Path.{refl}
 use denote.Ref.{now}
-use Rattle.edges.proofs.Inside.{slot-inside, corner-below, after-below, edge-stored}
+use Rattle.stored.proofs.Records.{lies}
+use Rattle.edges.proofs.Inside.{slot-inside, corner-stored, after-stored, edge-stored}
 use borrow.Author.Needs.{needs}
 use Rattle.edges.proofs.edge.Statement.{statement}
 use Rattle.edges.proofs.edge.Tie as tie
 
 corner-requires : tie.Need-corner-requires
-corner-requires c κs = (c .before .before .pre .0 .few, slot-inside (c .before .before .args .slots) (now (c .before .before .args .vertices)) (now (c .before .before .args .polygons)) (c .before .before .args .p) (c .before .before .pre .0) (c .before .before .args .i) (c .before .before .pre .1), c .before .before .pre .0 .listed)
-
-cast-a : tie.Need-cast-a
-cast-a c = search needs
+corner-requires c κs =
+    let start = c .before .before in
+    (lies (start .pre .0 .polygons-planned) _ (start .pre .0 .listed), slot-inside _ _ _ _ (start .pre .1))
 
 corner-after-requires : tie.Need-corner-after-requires
-corner-after-requires c κs = (c .before .before .before .pre .0 .few, slot-inside (c .before .before .before .args .slots) (now (c .before .before .before .args .vertices)) (now (c .before .before .before .args .polygons)) (c .before .before .before .args .p) (c .before .before .before .pre .0) (c .before .before .before .args .i) (c .before .before .before .pre .1), c .before .before .before .pre .0 .listed)
-
-cast-b : tie.Need-cast-b
-cast-b c = search needs
+corner-after-requires c κs =
+    let start = c .before .before .before in
+    (lies (start .pre .0 .polygons-planned) _ (start .pre .0 .listed), slot-inside _ _ _ _ (start .pre .1))
 
 used-vertex-requires : tie.Need-used-vertex-requires
-used-vertex-requires c κs = rw (c .before .corner .ensures) (corner-below (c .before .before .before .before .args .slots) (now (c .before .before .before .before .args .vertices)) (now (c .before .before .before .before .args .polygons)) (c .before .before .before .before .args .p) (c .before .before .before .before .pre .0) (c .before .before .before .before .args .i) (c .before .before .before .before .pre .1))
+used-vertex-requires c κs =
+    let start = c .before .before .before .before in
+    rw (c .before .corner .ensures) (corner-stored (start .pre .0) (start .args .i) (start .pre .1))
 
 used-vertex-requires-2 : tie.Need-used-vertex-requires-2
-used-vertex-requires-2 c κs = rw (c .before .corner-after .ensures) (after-below (c .before .before .before .before .before .args .slots) (now (c .before .before .before .before .before .args .vertices)) (now (c .before .before .before .before .before .args .polygons)) (c .before .before .before .before .before .args .p) (c .before .before .before .before .before .pre .0) (c .before .before .before .before .before .args .i) (c .before .before .before .before .before .pre .1))
+used-vertex-requires-2 c κs =
+    let start = c .before .before .before .before .before in
+    rw (c .before .corner-after .ensures) (after-stored (start .pre .0) (start .args .i) (start .pre .1))
 
 returns : tie.Need-returns
-returns c = rw (edge-stored (c .before .before .before .before .before .before .args .slots) (now (c .before .before .before .before .before .before .args .vertices)) (now (c .before .before .before .before .before .before .args .polygons)) (c .before .before .before .before .before .before .args .p) (c .before .before .before .before .before .before .pre .0) (c .before .before .before .before .before .before .args .i) (c .before .before .before .before .before .before .pre .1), ← c .before .before .before .corner .ensures, ← c .before .before .corner-after .ensures, ← c .before .used-vertex .ensures, ← c .used-vertex2 .ensures) refl
+returns c =
+    let at-corner-after = c .before .before in
+    let at-corner = at-corner-after .before in
+    let start = at-corner .before .before .before in
+    rw (
+      edge-stored (start .pre .0) (start .args .i) (start .pre .1),
+      ← at-corner .corner .ensures,
+      ← at-corner-after .corner-after .ensures,
+      ← c .before .used-vertex .ensures,
+      ← c .used-vertex2 .ensures,
+    ) refl
 
 pub edge-spec : {M : Type 1} → statement M
 edge-spec =
     tie.close
     (tie.spec
     corner-requires
-    cast-a
+    (λ c. search needs)
     corner-after-requires
-    cast-b
+    (λ c. search needs)
     used-vertex-requires
     used-vertex-requires-2
     returns)

@@ -1,4 +1,3 @@
-use denote.Ref.{now}
 use Prim.Native.Nat.{ℕ, _≤_, _<_, _-_}
 use Rattle.counts.proofs.Laws.{first-is}
 use borrow.Author.Count.{below-none, below-more}
@@ -7,18 +6,18 @@ use mathlib.Core.Path.{_≡_, sym}
 use native.Mathlib.Omega.{arith}
 use Rattle.edges.specs.Where.{polygonOf}
 use mathlib.Core.Bool.{true, false, not}
-use Rattle.stored.specs.Stored.{floorOf}
+use Rattle.stored.specs.Stored.{floorIn}
 use Rattle.edges.specs.Where.{contains}
-use Rattle.stored.proofs.Records.{polygon-count}
+use Rattle.stored.proofs.Records.{polygons-counted}
 use Rattle.edges.proofs.Inside.{listed-of}
 use Rattle.edges.proofs.polygon_of.Statement.{statement}
 use Rattle.edges.proofs.polygon_of.Tie as tie
 
 abbrev Inv-loop : tie.InvT-loop
-Inv-loop vertices polygons slots point n p₀ p = (p ≤ n) × ((k : ℕ) → k < p → contains (floorOf slots vertices polygons) point k ≡ false)
+Inv-loop vertices polygons plan point n p₀ p = (p ≤ n) × ((k : ℕ) → k < p → contains (floorIn plan vertices polygons) point k ≡ false)
 
 abbrev μ-loop : tie.MeasureT-loop
-μ-loop vertices polygons slots point n p₀ p = n - p
+μ-loop vertices polygons plan point n p₀ p = n - p
 
 polygon-count-requires : tie.Need-polygon-count-requires Inv-loop μ-loop
 polygon-count-requires c κs = search needs
@@ -28,13 +27,18 @@ loop-holds c = (omega arith, below-none _)
 
 contains-requires : tie.Need-contains-requires Inv-loop μ-loop
 contains-requires c κs =
-    let s = c .before .before .before .before .before in
-    listed-of (s .args .slots) (now (s .args .vertices)) (now (s .args .polygons)) (s .pre .0) (s .pre .1) (s .pre .2) (c .before .loop .p)
-    (rw (c .before .before .polygon-count .ensures) at (c .loop-test .taken))
+    let at-polygon-count = c .before .before in
+    let s = at-polygon-count .before .before .before in
+    listed-of (s .pre) (c .before .loop .p) (rw (at-polygon-count .polygon-count .ensures) at (c .loop-test .taken))
 
 returns : tie.Need-returns Inv-loop μ-loop
 unfolding polygonOf
-returns c = rw (polygon-count _ _ _, ← c .before .before .before .before .polygon-count .ensures) (sym (first-is _ _ _ (omega arith) (c .before .before .before .loop .inv .1) (λ l. rw (← c .before .contains .ensures, c .if1 .taken))))
+returns c =
+    let at-loop = c .before .before .before in
+    let at-polygon-count = at-loop .before in
+    let start = at-polygon-count .before .before .before in
+    rw (polygons-counted (start .pre .polygons-planned), ← at-polygon-count .polygon-count .ensures)
+    (sym (first-is _ _ _ (omega arith) (at-loop .loop .inv .1) (λ l. rw (← c .before .contains .ensures, c .if1 .taken))))
 
 add-p : tie.Need-add-p Inv-loop μ-loop
 add-p c = omega arith
@@ -47,7 +51,11 @@ loop-again c = (omega arith, below-more _ _ (c .before .before .before .loop .in
 
 returns-2 : tie.Need-returns-2 Inv-loop μ-loop
 unfolding polygonOf
-returns-2 c = rw (polygon-count _ _ _, ← c .before .before .polygon-count .ensures) (sym (first-is _ _ _ (omega arith) (λ k l. c .before .loop .inv .1 k (omega arith)) (λ l. absurd (omega arith))))
+returns-2 c =
+    let at-polygon-count = c .before .before in
+    let start = at-polygon-count .before .before .before in
+    rw (polygons-counted (start .pre .polygons-planned), ← at-polygon-count .polygon-count .ensures)
+    (sym (first-is _ _ _ (omega arith) (λ k l. c .before .loop .inv .1 k (omega arith)) (λ l. absurd (omega arith))))
 
 pub polygon-of-spec : {M : Type 1} → statement M
 polygon-of-spec =

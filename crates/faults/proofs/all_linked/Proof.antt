@@ -7,16 +7,16 @@ use borrow.Author.Tests.{not-true}
 use mathlib.Core.Path.{_≡_, sym}
 use native.Mathlib.Omega.{arith}
 use mathlib.Core.Bool.{true, false, not}
-use Rattle.stored.specs.Stored.{floorOf}
+use Rattle.stored.specs.Stored.{polygonsIn}
 use Rattle.faults.specs.Tests.{linkRight}
 use Rattle.faults.proofs.all_linked.Statement.{statement}
 use Rattle.faults.proofs.all_linked.Tie as tie
 
 abbrev Inv-loop : tie.InvT-loop
-Inv-loop vertices polygons slots p n i₀ i = (i ≤ n) × ((k : ℕ) → k < i → linkRight (floorOf slots vertices polygons) p k ≡ true)
+Inv-loop polygons plan p n i₀ i = (i ≤ n) × ((k : ℕ) → k < i → linkRight (polygonsIn plan polygons) p k ≡ true)
 
 abbrev μ-loop : tie.MeasureT-loop
-μ-loop vertices polygons slots p n i₀ i = n - i
+μ-loop polygons plan p n i₀ i = n - i
 
 loop-holds : tie.Need-loop-holds Inv-loop μ-loop
 loop-holds c = (omega arith, below-none _)

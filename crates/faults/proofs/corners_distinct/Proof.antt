@@ -10,16 +10,16 @@ use Rattle.faults.specs.Tests.{distinct}
 use Prim.Native.Nat.{_+_}
 use mathlib.Core.Bool.{true, false, not}
 use lib.Dec.{eqb, ltb}
-use Rattle.stored.specs.Stored.{corner, polygonAt, unused}
+use Rattle.stored.specs.Stored.{corner, recordIn, unused}
 use Rattle.faults.specs.Tests.{unlikeEarlier}
 use Rattle.faults.proofs.corners_distinct.Statement.{statement}
 use Rattle.faults.proofs.corners_distinct.Tie as tie
 
 abbrev Inv-loop : tie.InvT-loop
-Inv-loop polygons slots p n j₀ j = (j ≤ n) × ((k : ℕ) → k < j → unlikeEarlier (polygonAt slots polygons p) k ≡ true)
+Inv-loop polygons plan p n j₀ j = (j ≤ n) × ((k : ℕ) → k < j → unlikeEarlier (recordIn plan polygons p) k ≡ true)
 
 abbrev μ-loop : tie.MeasureT-loop
-μ-loop polygons slots p n j₀ j = n - j
+μ-loop polygons plan p n j₀ j = n - j
 
 loop-holds : tie.Need-loop-holds Inv-loop μ-loop
 loop-holds c = (omega arith, below-none _)
@@ -29,7 +29,12 @@ unlike-earlier-requires c κs = search needs
 
 returns : tie.Need-returns Inv-loop μ-loop
 unfolding distinct
-returns c = rw (← c .before .before .before .before .before .pre .3) (sym (every-false _ _ (c .before .before .before .loop .j) (omega arith) (rw (← c .before .unlike-earlier .ensures, not-true (c .before .unlike-earlier .result) (c .if1 .taken)))))
+returns c =
+    let at-loop = c .before .before .before in
+    let start = at-loop .before .before in
+    rw (← start .pre .2) (sym
+    (every-false _ _ (at-loop .loop .j) (omega arith)
+    (rw (← c .before .unlike-earlier .ensures, not-true (c .before .unlike-earlier .result) (c .if1 .taken)))))
 
 add-j : tie.Need-add-j Inv-loop μ-loop
 add-j c = omega arith
@@ -42,7 +47,7 @@ loop-again c = (omega arith, below-more _ _ (c .before .before .before .loop .in
 
 returns-2 : tie.Need-returns-2 Inv-loop μ-loop
 unfolding distinct
-returns-2 c = rw (← c .before .before .before .pre .3) (sym (every-true _ _ (λ k l. c .before .loop .inv .1 k (omega arith))))
+returns-2 c = rw (← c .before .before .before .pre .2) (sym (every-true _ _ (λ k l. c .before .loop .inv .1 k (omega arith))))
 
 pub corners-distinct-spec : {M : Type 1} → statement M
 corners-distinct-spec =

@@ -10,15 +10,15 @@ use Rattle.faults.specs.Tests.{cornersListed}
 use Prim.Native.Nat.{_+_}
 use mathlib.Core.Bool.{true, false, not}
 use lib.Dec.{eqb, ltb}
-use Rattle.stored.specs.Stored.{corner, polygonAt, unused}
+use Rattle.stored.specs.Stored.{corner, recordIn, unused}
 use Rattle.faults.proofs.corners_listed.Statement.{statement}
 use Rattle.faults.proofs.corners_listed.Tie as tie
 
 abbrev Inv-loop : tie.InvT-loop
-Inv-loop polygons slots p n count i₀ i = (i ≤ n) × ((k : ℕ) → k < i → ltb (corner (polygonAt slots polygons p) k) count ≡ true)
+Inv-loop polygons plan p n count i₀ i = (i ≤ n) × ((k : ℕ) → k < i → ltb (corner (recordIn plan polygons p) k) count ≡ true)
 
 abbrev μ-loop : tie.MeasureT-loop
-μ-loop polygons slots p n count i₀ i = n - i
+μ-loop polygons plan p n count i₀ i = n - i
 
 loop-holds : tie.Need-loop-holds Inv-loop μ-loop
 loop-holds c = (omega arith, below-none _)
@@ -31,7 +31,14 @@ is-below-requires c κs = search needs
 
 returns : tie.Need-returns Inv-loop μ-loop
 unfolding cornersListed
-returns c = rw (← c .before .before .before .before .before .before .pre .3) (sym (every-false _ _ (c .before .before .before .before .loop .i) (omega arith) (rw (← c .before .before .corner .ensures, ← c .before .is-below .ensures, not-true (c .before .is-below .result) (c .if1 .taken)))))
+returns c =
+    let at-corner = c .before .before in
+    let at-loop = at-corner .before .before in
+    let at-count = at-loop .before in
+    let start = at-count .before .before in
+    rw (← start .pre .2, ← at-count .vertex-count .ensures) (sym
+    (every-false _ _ (at-loop .loop .i) (omega arith)
+    (rw (← at-corner .corner .ensures, ← c .before .is-below .ensures, not-true (c .before .is-below .result) (c .if1 .taken)))))
 
 add-i : tie.Need-add-i Inv-loop μ-loop
 add-i c = omega arith
@@ -40,13 +47,21 @@ loop-less : tie.Need-loop-less Inv-loop μ-loop
 loop-less c = omega arith
 
 loop-again : tie.Need-loop-again Inv-loop μ-loop
-loop-again c = (omega arith, below-more _ _ (c .before .before .before .before .loop .inv .1) (rw (← c .before .before .corner .ensures, ← c .before .is-below .ensures, not-false (c .before .is-below .result) (c .if1 .left))))
+loop-again c =
+    let at-corner = c .before .before in
+    let at-loop = at-corner .before .before in (
+      omega arith,
+      below-more _ _ (at-loop .loop .inv .1)
+          (rw (← at-corner .corner .ensures, ← c .before .is-below .ensures, not-false (c .before .is-below .result) (c .if1 .left))),
+    )
 
 returns-2 : tie.Need-returns-2 Inv-loop μ-loop
 unfolding cornersListed
-returns-2 c = rw (← c .before .before .before .pre .3) (sym (every-true _ _ (λ k l. c .before .loop .inv .1 k (omega arith))))
+returns-2 c =
+    let at-count = c .before .before in
+    rw (← at-count .before .before .pre .2, ← at-count .vertex-count .ensures) (sym (every-true _ _ (λ k l. c .before .loop .inv .1 k (omega arith))))
 
 pub corners-listed-spec : {M : Type 1} → statement M
 corners-listed-spec =
     tie.close
-    (tie.spec Inv-loop μ-loop loop-holds corner-requires is-below-requires returns add-i loop-less loop-again returns-2)
+    (tie.spec Inv-loop μ-loop (λ c κs. search needs) loop-holds corner-requires is-below-requires returns add-i loop-less loop-again returns-2)

@@ -6,15 +6,6 @@ use Rattle.faults.specs.Tests.{isBack}
 use Rattle.faults.proofs.is_back.Statement.{statement}
 use Rattle.faults.proofs.is_back.Tie as tie
 
-corner-requires : tie.Need-corner-requires
-corner-requires c κs = search needs
-
-corner-after-requires : tie.Need-corner-after-requires
-corner-after-requires c κs = search needs
-
-neighbour-requires : tie.Need-neighbour-requires
-neighbour-requires c κs = search needs
-
 returns : tie.Need-returns
 unfolding isBack
 returns c =
@@ -41,4 +32,4 @@ returns-3 c =
 pub is-back-spec : {M : Type 1} → statement M
 is-back-spec =
     tie.close
-    (tie.spec corner-requires corner-after-requires neighbour-requires returns returns-2 returns-3)
+    (tie.spec (λ c κs. search needs) (λ c κs. search needs) (λ c κs. search needs) returns returns-2 returns-3)

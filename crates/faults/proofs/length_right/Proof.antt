@@ -7,12 +7,6 @@ use Rattle.faults.specs.Tests.{lengthRight}
 use Rattle.faults.proofs.length_right.Statement.{statement}
 use Rattle.faults.proofs.length_right.Tie as tie
 
-div-count : tie.Need-div-count
-div-count c = search needs
-
-rem-if1 : tie.Need-rem-if1
-rem-if1 c = search needs
-
 returns : tie.Need-returns
 unfolding lengthRight
 returns c =
@@ -32,4 +26,4 @@ returns-3 c = rw (ne-eqb _ _ (c .if1 .left))
 pub length-right-spec : {M : Type 1} → statement M
 length-right-spec =
     tie.close
-    (tie.spec div-count rem-if1 returns returns-2 returns-3)
+    (tie.spec (λ c. search needs) (λ c. search needs) returns returns-2 returns-3)

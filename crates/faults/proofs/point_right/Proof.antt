@@ -3,12 +3,6 @@ use Rattle.faults.specs.Tests.{pointRight}
 use Rattle.faults.proofs.point_right.Statement.{statement}
 use Rattle.faults.proofs.point_right.Tie as tie
 
-coordinate-right-requires : tie.Need-coordinate-right-requires
-coordinate-right-requires c κs = search needs
-
-coordinate-right-requires-2 : tie.Need-coordinate-right-requires-2
-coordinate-right-requires-2 c κs = search needs
-
 returns : tie.Need-returns
 unfolding pointRight
 returns c =
@@ -25,4 +19,4 @@ returns-2 c =
 pub point-right-spec : {M : Type 1} → statement M
 point-right-spec =
     tie.close
-    (tie.spec coordinate-right-requires coordinate-right-requires-2 returns returns-2)
+    (tie.spec (λ c κs. search needs) (λ c κs. search needs) returns returns-2)

@@ -4,21 +4,21 @@ use borrow.Author.Count.{below-none, below-more}
 use borrow.Author.Needs.{needs}
 use borrow.Author.Tests.{not-false}
 use borrow.Author.Tests.{not-true}
-use mathlib.Core.Path.{_≡_, sym}
+use mathlib.Core.Path.{_≡_, sym, _∙_}
 use native.Mathlib.Omega.{arith}
-use Rattle.faults.specs.Tests.{restUnused}
+use Rattle.faults.proofs.Rest.{rest-by}
 use Prim.Native.Nat.{_+_}
 use mathlib.Core.Bool.{true, false, not}
 use lib.Dec.{eqb, ltb}
-use Rattle.stored.specs.Stored.{slotAt, unused}
+use Rattle.stored.specs.Stored.{slotIn, unused}
 use Rattle.faults.proofs.rest_unused.Statement.{statement}
 use Rattle.faults.proofs.rest_unused.Tie as tie
 
 abbrev Inv-loop : tie.InvT-loop
-Inv-loop polygons slots p begin n rest i₀ i = (i ≤ rest) × ((k : ℕ) → k < i → eqb (slotAt slots polygons p (begin + (n + k))) unused ≡ true)
+Inv-loop polygons plan p begin n rest i₀ i = (i ≤ rest) × ((k : ℕ) → k < i → eqb (slotIn plan polygons p (begin + (n + k))) unused ≡ true)
 
 abbrev μ-loop : tie.MeasureT-loop
-μ-loop polygons slots p begin n rest i₀ i = rest - i
+μ-loop polygons plan p begin n rest i₀ i = rest - i
 
 sub-rest : tie.Need-sub-rest Inv-loop μ-loop
 sub-rest c = omega arith
@@ -39,8 +39,12 @@ is-unused-requires : tie.Need-is-unused-requires Inv-loop μ-loop
 is-unused-requires c κs = search needs
 
 returns : tie.Need-returns Inv-loop μ-loop
-unfolding restUnused
-returns c = sym (every-false _ _ (c .before .before .before .before .loop .i) (omega arith) (rw (← c .before .before .slot .ensures, ← c .before .is-unused .ensures, not-true (c .before .is-unused .result) (c .if1 .taken))))
+returns c =
+    let at-slot = c .before .before in
+    let at-loop = at-slot .before .before in
+    (sym (every-false _ _ (at-loop .loop .i) (omega arith)
+    (rw (← at-slot .slot .ensures, ← c .before .is-unused .ensures, not-true (c .before .is-unused .result) (c .if1 .taken))))
+    ∙ rest-by _ _ (at-loop .before .slots .ensures))
 
 add-i : tie.Need-add-i Inv-loop μ-loop
 add-i c = omega arith
@@ -49,13 +53,19 @@ loop-less : tie.Need-loop-less Inv-loop μ-loop
 loop-less c = omega arith
 
 loop-again : tie.Need-loop-again Inv-loop μ-loop
-loop-again c = (omega arith, below-more _ _ (c .before .before .before .before .loop .inv .1) (rw (← c .before .before .slot .ensures, ← c .before .is-unused .ensures, not-false (c .before .is-unused .result) (c .if1 .left))))
+loop-again c =
+    let at-slot = c .before .before in
+    let at-loop = at-slot .before .before in (
+      omega arith,
+      below-more _ _ (at-loop .loop .inv .1)
+          (rw (← at-slot .slot .ensures, ← c .before .is-unused .ensures, not-false (c .before .is-unused .result) (c .if1 .left))),
+    )
 
 returns-2 : tie.Need-returns-2 Inv-loop μ-loop
-unfolding restUnused
-returns-2 c = sym (every-true _ _ (λ k l. c .before .loop .inv .1 k (omega arith)))
+returns-2 c =
+    sym (every-true _ _ (λ k l. c .before .loop .inv .1 k (omega arith))) ∙ rest-by _ _ (c .before .before .slots .ensures)
 
 pub rest-unused-spec : {M : Type 1} → statement M
 rest-unused-spec =
     tie.close
-    (tie.spec Inv-loop μ-loop sub-rest loop-holds add-slot add-slot-2 slot-requires is-unused-requires returns add-i loop-less loop-again returns-2)
+    (tie.spec Inv-loop μ-loop (λ c κs. search needs) sub-rest loop-holds add-slot add-slot-2 slot-requires is-unused-requires returns add-i loop-less loop-again returns-2)

@@ -10,15 +10,15 @@ use Rattle.faults.specs.Tests.{unlikeEarlier}
 use Prim.Native.Nat.{_+_}
 use mathlib.Core.Bool.{true, false, not}
 use lib.Dec.{eqb, ltb}
-use Rattle.stored.specs.Stored.{corner, polygonAt, unused}
+use Rattle.stored.specs.Stored.{corner, recordIn, unused}
 use Rattle.faults.proofs.unlike_earlier.Statement.{statement}
 use Rattle.faults.proofs.unlike_earlier.Tie as tie
 
 abbrev Inv-loop : tie.InvT-loop
-Inv-loop polygons slots p j last i₀ i = (i ≤ j) × ((k : ℕ) → k < i → not (eqb (corner (polygonAt slots polygons p) k) (corner (polygonAt slots polygons p) j)) ≡ true)
+Inv-loop polygons plan p j last i₀ i = (i ≤ j) × ((k : ℕ) → k < i → not (eqb (corner (recordIn plan polygons p) k) (corner (recordIn plan polygons p) j)) ≡ true)
 
 abbrev μ-loop : tie.MeasureT-loop
-μ-loop polygons slots p j last i₀ i = j - i
+μ-loop polygons plan p j last i₀ i = j - i
 
 corner-requires : tie.Need-corner-requires Inv-loop μ-loop
 corner-requires c κs = search needs
@@ -31,7 +31,10 @@ corner-requires-2 c κs = search needs
 
 returns : tie.Need-returns Inv-loop μ-loop
 unfolding unlikeEarlier
-returns c = sym (every-false _ _ (c .before .before .before .loop .i) (omega arith) (rw (← c .before .before .before .before .corner .ensures, ← c .before .corner2 .ensures, eq-eqb _ _ (c .if1 .taken))))
+returns c =
+    let at-loop = c .before .before .before in
+    let at-corner = at-loop .before in
+    sym (every-false _ _ (at-loop .loop .i) (omega arith) (rw (← at-corner .corner .ensures, ← c .before .corner2 .ensures, eq-eqb _ _ (c .if1 .taken))))
 
 add-i : tie.Need-add-i Inv-loop μ-loop
 add-i c = omega arith
@@ -40,7 +43,10 @@ loop-less : tie.Need-loop-less Inv-loop μ-loop
 loop-less c = omega arith
 
 loop-again : tie.Need-loop-again Inv-loop μ-loop
-loop-again c = (omega arith, below-more _ _ (c .before .before .before .loop .inv .1) (rw (← c .before .before .before .before .corner .ensures, ← c .before .corner2 .ensures, ne-eqb _ _ (c .if1 .left))))
+loop-again c =
+    let at-loop = c .before .before .before in
+    let at-corner = at-loop .before in
+    (omega arith, below-more _ _ (at-loop .loop .inv .1) (rw (← at-corner .corner .ensures, ← c .before .corner2 .ensures, ne-eqb _ _ (c .if1 .left))))
 
 returns-2 : tie.Need-returns-2 Inv-loop μ-loop
 unfolding unlikeEarlier

@@ -5,18 +5,6 @@ use Rattle.faults.specs.Tests.{questionRight}
 use Rattle.floor.proofs.question_right.Statement.{statement}
 use Rattle.floor.proofs.question_right.Tie as tie
 
-question-start-requires : tie.Need-question-start-requires
-question-start-requires c κs = search needs
-
-point-right-requires : tie.Need-point-right-requires
-point-right-requires c κs = search needs
-
-question-goal-requires : tie.Need-question-goal-requires
-question-goal-requires c κs = search needs
-
-point-right-requires-2 : tie.Need-point-right-requires-2
-point-right-requires-2 c κs = search needs
-
 returns : tie.Need-returns
 unfolding questionRight
 returns c =
@@ -42,4 +30,4 @@ returns-3 c = rw (ne-eqb _ _ (c .if1 .left))
 pub question-right-spec : {M : Type 1} → statement M
 question-right-spec =
     tie.close
-    (tie.spec question-start-requires point-right-requires question-goal-requires point-right-requires-2 returns returns-2 returns-3)
+    (tie.spec (λ c κs. search needs) (λ c κs. search needs) (λ c κs. search needs) (λ c κs. search needs) returns returns-2 returns-3)

@@ -3,18 +3,6 @@ use borrow.Author.Needs.{needs}
 use Rattle.geometry_c.proofs.geometry_intersection_time.Statement.{statement}
 use Rattle.geometry_c.proofs.geometry_intersection_time.Tie as tie
 
-segment-requires : tie.Need-segment-requires
-segment-requires c κs = search needs
-
-segment-requires-2 : tie.Need-segment-requires-2
-segment-requires-2 c κs = search needs
-
-intersection-time-requires : tie.Need-intersection-time-requires
-intersection-time-requires c κs = search needs
-
-to-bits-requires : tie.Need-to-bits-requires
-to-bits-requires c κs = search needs
-
 returns : tie.Need-returns
 returns c =
     let c1 = c .before in
@@ -23,4 +11,4 @@ returns c =
     simp (c .to-bits .ensures, c1 .intersection-time .ensures, c2 .segment2 .ensures, c3 .segment .ensures)
 
 pub geometry-intersection-time-spec : {M : Type 1} → statement M
-geometry-intersection-time-spec = tie.close (tie.spec segment-requires segment-requires-2 intersection-time-requires to-bits-requires returns)
+geometry-intersection-time-spec = tie.close (tie.spec (λ c κs. search needs) (λ c κs. search needs) (λ c κs. search needs) (λ c κs. search needs) returns)

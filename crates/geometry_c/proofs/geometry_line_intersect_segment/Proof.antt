@@ -5,24 +5,6 @@ use Rattle.geometry_c.specs.Export.{crossingNumber, crossingWritten}
 use Rattle.geometry_c.proofs.geometry_line_intersect_segment.Statement.{statement}
 use Rattle.geometry_c.proofs.geometry_line_intersect_segment.Tie as tie
 
-segment-requires : tie.Need-segment-requires
-segment-requires c κs = search needs
-
-segment-requires-2 : tie.Need-segment-requires-2
-segment-requires-2 c κs = search needs
-
-line-intersect-segment-requires : tie.Need-line-intersect-segment-requires
-line-intersect-segment-requires c κs = search needs
-
-enum-known-crossing : tie.Need-enum-known-crossing
-enum-known-crossing c = search needs
-
-put-requires : tie.Need-put-requires
-put-requires c κs = search needs
-
-enum-told : tie.Need-enum-told
-enum-told c = search needs
-
 returns : tie.Need-returns
 unfolding crossingNumber crossingWritten
 returns c =
@@ -43,4 +25,5 @@ returns-2 c =
 pub geometry-line-intersect-segment-spec : {M : Type 1} → statement M
 geometry-line-intersect-segment-spec =
     tie.close
-    (tie.spec segment-requires segment-requires-2 line-intersect-segment-requires enum-known-crossing put-requires enum-told returns returns-2)
+    (tie.spec (λ c κs. search needs) (λ c κs. search needs) (λ c κs. search needs) (λ c. search needs) (λ c κs. search needs)
+    (λ c. search needs) returns returns-2)

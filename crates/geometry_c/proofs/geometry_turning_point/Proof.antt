@@ -5,27 +5,6 @@ use Rattle.geometry_c.specs.Export.{turnNumber, turnWritten}
 use Rattle.geometry_c.proofs.geometry_turning_point.Statement.{statement}
 use Rattle.geometry_c.proofs.geometry_turning_point.Tie as tie
 
-from-bits-requires : tie.Need-from-bits-requires
-from-bits-requires c κs = search needs
-
-from-bits-requires-2 : tie.Need-from-bits-requires-2
-from-bits-requires-2 c κs = search needs
-
-segment-requires : tie.Need-segment-requires
-segment-requires c κs = search needs
-
-turning-point-requires : tie.Need-turning-point-requires
-turning-point-requires c κs = search needs
-
-enum-known-turn : tie.Need-enum-known-turn
-enum-known-turn c = search needs
-
-put-requires : tie.Need-put-requires
-put-requires c κs = search needs
-
-enum-told : tie.Need-enum-told
-enum-told c = search needs
-
 returns : tie.Need-returns
 unfolding turnNumber turnWritten
 returns c =
@@ -48,4 +27,5 @@ returns-2 c =
 pub geometry-turning-point-spec : {M : Type 1} → statement M
 geometry-turning-point-spec =
     tie.close
-    (tie.spec from-bits-requires from-bits-requires-2 segment-requires turning-point-requires enum-known-turn put-requires enum-told returns returns-2)
+    (tie.spec (λ c κs. search needs) (λ c κs. search needs) (λ c κs. search needs) (λ c κs. search needs) (λ c. search needs) (λ c κs. search needs)
+    (λ c. search needs) returns returns-2)

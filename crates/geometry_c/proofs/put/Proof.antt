@@ -4,12 +4,6 @@ use Rattle.geometry_c.specs.Export.{pointBits}
 use Rattle.geometry_c.proofs.put.Statement.{statement}
 use Rattle.geometry_c.proofs.put.Tie as tie
 
-to-bits-requires : tie.Need-to-bits-requires
-to-bits-requires c κs = search needs
-
-to-bits-requires-2 : tie.Need-to-bits-requires-2
-to-bits-requires-2 c κs = search needs
-
 returns : tie.Need-returns
 unfolding pointBits
 returns c =
@@ -18,4 +12,4 @@ returns c =
     simp (c1 .to-bits2 .ensures, c2 .to-bits .ensures)
 
 pub put-spec : {M : Type 1} → statement M
-put-spec = tie.close (tie.spec to-bits-requires to-bits-requires-2 returns)
+put-spec = tie.close (tie.spec (λ c κs. search needs) (λ c κs. search needs) returns)

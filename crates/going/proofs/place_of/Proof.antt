@@ -7,17 +7,17 @@ use borrow.Author.Tests.{ne-eqb}
 use mathlib.Core.Path.{_≡_, sym}
 use native.Mathlib.Omega.{arith}
 use Rattle.steps.specs.Steps.{placeOf}
-use Rattle.stored.specs.Stored.{polygonAt, corner}
+use Rattle.stored.specs.Stored.{recordIn, corner}
 use mathlib.Core.Bool.{false}
 use lib.Dec.{eqb}
 use Rattle.going.proofs.place_of.Statement.{statement}
 use Rattle.going.proofs.place_of.Tie as tie
 
 abbrev Inv-loop : tie.InvT-loop
-Inv-loop polygons slots p n v i₀ i = (i ≤ n) × ((k : ℕ) → k < i → eqb (corner (polygonAt slots polygons p) k) v ≡ false)
+Inv-loop polygons plan p n v i₀ i = (i ≤ n) × ((k : ℕ) → k < i → eqb (corner (recordIn plan polygons p) k) v ≡ false)
 
 abbrev μ-loop : tie.MeasureT-loop
-μ-loop polygons slots p n v i₀ i = n - i
+μ-loop polygons plan p n v i₀ i = n - i
 
 loop-holds : tie.Need-loop-holds Inv-loop μ-loop
 loop-holds c = (omega arith, below-none _)

@@ -3,17 +3,11 @@ use Rattle.going.specs.Going.{walkBy}
 use Rattle.going.proofs.walk_by.Statement.{statement}
 use Rattle.going.proofs.walk_by.Tie as tie
 
-whole-requires : tie.Need-whole-requires
-whole-requires c κs = search needs
-
 returns : tie.Need-returns
 unfolding walkBy
 returns c =
     let c1 = c .before in
     rw (c1 .if1 .taken, ← c .whole .ensures)
-
-walk-edge-requires : tie.Need-walk-edge-requires
-walk-edge-requires c κs = search needs
 
 returns-2 : tie.Need-returns-2
 unfolding walkBy
@@ -24,4 +18,4 @@ returns-2 c =
 pub walk-by-spec : {M : Type 1} → statement M
 walk-by-spec =
     tie.close
-    (tie.spec whole-requires returns walk-edge-requires returns-2)
+    (tie.spec (λ c κs. search needs) returns (λ c κs. search needs) returns-2)

@@ -6,18 +6,6 @@ use Rattle.point.proofs.Cases.{left, taken}
 use Rattle.helpers.proofs.goal_beyond.Statement.{statement}
 use Rattle.helpers.proofs.goal_beyond.Tie as tie
 
-side-requires : tie.Need-side-requires
-side-requires c κs = search needs
-
-side-requires-2 : tie.Need-side-requires-2
-side-requires-2 c κs = search needs
-
-same-side-requires : tie.Need-same-side-requires
-same-side-requires c κs = search needs
-
-mirror-requires : tie.Need-mirror-requires
-mirror-requires c κs = search needs
-
 returns : tie.Need-returns
 unfolding goalBeyondOf
 returns c =
@@ -36,4 +24,4 @@ returns-2 c =
     left _ _ (simp (c1 .same-side .ensures, c2 .side2 .ensures, c3 .side .ensures) at (c .if1 .left)) refl
 
 pub goal-beyond-spec : {M : Type 1} → statement M
-goal-beyond-spec = tie.close (tie.spec side-requires side-requires-2 same-side-requires mirror-requires returns returns-2)
+goal-beyond-spec = tie.close (tie.spec (λ c κs. search needs) (λ c κs. search needs) (λ c κs. search needs) (λ c κs. search needs) returns returns-2)

@@ -5,15 +5,6 @@ use Rattle.point.proofs.Cases.{left, taken}
 use Rattle.helpers.proofs.heuristic.Statement.{statement}
 use Rattle.helpers.proofs.heuristic.Tie as tie
 
-goal-beyond-requires : tie.Need-goal-beyond-requires
-goal-beyond-requires c κs = search needs
-
-ends-at-requires : tie.Need-ends-at-requires
-ends-at-requires c κs = search needs
-
-distance-requires : tie.Need-distance-requires
-distance-requires c κs = search needs
-
 returns : tie.Need-returns
 unfolding heuristicOf
 returns c =
@@ -21,15 +12,6 @@ returns c =
     let c2 = c1 .before in
     let c3 = c2 .before in
     taken _ _ (simp (c2 .ends-at .ensures) at (c1 .if1 .taken)) (simp (c .distance .ensures, c3 .goal-beyond .ensures))
-
-intersection-time-requires : tie.Need-intersection-time-requires
-intersection-time-requires c κs = search needs
-
-distance-requires-2 : tie.Need-distance-requires-2
-distance-requires-2 c κs = search needs
-
-distance-requires-3 : tie.Need-distance-requires-3
-distance-requires-3 c κs = search needs
 
 returns-2 : tie.Need-returns-2
 unfolding heuristicOf
@@ -41,13 +23,8 @@ returns-2 c =
     let c5 = c4 .before in
     let c6 = c5 .before in
     left _ _ (simp (c5 .ends-at .ensures) at (c4 .if1 .left))
-    (taken _ _ (simp (c3 .intersection-time .ensures, c6 .goal-beyond .ensures) at (c2 .if2 .taken)) (simp (c .distance3 .ensures, c1 .distance2 .ensures, c6 .goal-beyond .ensures)))
-
-distance-requires-4 : tie.Need-distance-requires-4
-distance-requires-4 c κs = search needs
-
-distance-requires-5 : tie.Need-distance-requires-5
-distance-requires-5 c κs = search needs
+    (taken _ _ (simp (c3 .intersection-time .ensures, c6 .goal-beyond .ensures) at (c2 .if2 .taken))
+    (simp (c .distance3 .ensures, c1 .distance2 .ensures, c6 .goal-beyond .ensures)))
 
 returns-3 : tie.Need-returns-3
 unfolding heuristicOf
@@ -61,10 +38,8 @@ returns-3 c =
     let c7 = c6 .before in
     left _ _ (simp (c6 .ends-at .ensures) at (c5 .if1 .left))
     (left _ _ (simp (c4 .intersection-time .ensures, c7 .goal-beyond .ensures) at (c3 .if2 .left))
-    (taken _ _ (simp (c4 .intersection-time .ensures, c7 .goal-beyond .ensures) at (c2 .if3 .taken)) (simp (c .distance5 .ensures, c1 .distance4 .ensures, c7 .goal-beyond .ensures))))
-
-distance-requires-6 : tie.Need-distance-requires-6
-distance-requires-6 c κs = search needs
+    (taken _ _ (simp (c4 .intersection-time .ensures, c7 .goal-beyond .ensures) at (c2 .if3 .taken))
+    (simp (c .distance5 .ensures, c1 .distance4 .ensures, c7 .goal-beyond .ensures))))
 
 returns-4 : tie.Need-returns-4
 unfolding heuristicOf
@@ -80,4 +55,4 @@ returns-4 c =
     (left _ _ (simp (c3 .intersection-time .ensures, c6 .goal-beyond .ensures) at (c1 .if3 .left)) (simp (c .distance6 .ensures, c6 .goal-beyond .ensures))))
 
 pub heuristic-spec : {M : Type 1} → statement M
-heuristic-spec = tie.close (tie.spec goal-beyond-requires ends-at-requires distance-requires returns intersection-time-requires distance-requires-2 distance-requires-3 returns-2 distance-requires-4 distance-requires-5 returns-3 distance-requires-6 returns-4)
+heuristic-spec = tie.close (tie.spec (λ c κs. search needs) (λ c κs. search needs) (λ c κs. search needs) returns (λ c κs. search needs) (λ c κs. search needs) (λ c κs. search needs) returns-2 (λ c κs. search needs) (λ c κs. search needs) returns-3 (λ c κs. search needs) returns-4)

@@ -4,21 +4,6 @@ use Rattle.helpers.specs.Helpers.{intersectionTimeOf}
 use Rattle.helpers.proofs.intersection_time.Statement.{statement}
 use Rattle.helpers.proofs.intersection_time.Tie as tie
 
-minus-requires : tie.Need-minus-requires
-minus-requires c κs = search needs
-
-minus-requires-2 : tie.Need-minus-requires-2
-minus-requires-2 c κs = search needs
-
-perp-dot-requires : tie.Need-perp-dot-requires
-perp-dot-requires c κs = search needs
-
-minus-requires-3 : tie.Need-minus-requires-3
-minus-requires-3 c κs = search needs
-
-perp-dot-requires-2 : tie.Need-perp-dot-requires-2
-perp-dot-requires-2 c κs = search needs
-
 returns : tie.Need-returns
 unfolding intersectionTimeOf
 returns c =
@@ -29,4 +14,4 @@ returns c =
     simp (c .perp-dot2 .ensures, c1 .minus3 .ensures, c2 .perp-dot .ensures, c3 .minus2 .ensures, c4 .minus .ensures)
 
 pub intersection-time-spec : {M : Type 1} → statement M
-intersection-time-spec = tie.close (tie.spec minus-requires minus-requires-2 perp-dot-requires minus-requires-3 perp-dot-requires-2 returns)
+intersection-time-spec = tie.close (tie.spec (λ c κs. search needs) (λ c κs. search needs) (λ c κs. search needs) (λ c κs. search needs) (λ c κs. search needs) returns)

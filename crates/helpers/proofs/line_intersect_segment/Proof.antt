@@ -6,24 +6,6 @@ use Rattle.point.proofs.Cases.{left, taken}
 use Rattle.helpers.proofs.line_intersect_segment.Statement.{statement}
 use Rattle.helpers.proofs.line_intersect_segment.Tie as tie
 
-intersection-time-requires : tie.Need-intersection-time-requires
-intersection-time-requires c κs = search needs
-
-crosses-requires : tie.Need-crosses-requires
-crosses-requires c κs = search needs
-
-minus-requires : tie.Need-minus-requires
-minus-requires c κs = search needs
-
-clamp-requires : tie.Need-clamp-requires
-clamp-requires c κs = search needs
-
-times-requires : tie.Need-times-requires
-times-requires c κs = search needs
-
-plus-requires : tie.Need-plus-requires
-plus-requires c κs = search needs
-
 returns : tie.Need-returns
 unfolding lineIntersectSegmentOf
 returns c =
@@ -33,7 +15,8 @@ returns c =
     let c4 = c3 .before in
     let c5 = c4 .before in
     let c6 = c5 .before in
-    taken _ _ (simp (c5 .crosses .ensures, c6 .intersection-time .ensures) at (c4 .if1 .taken)) (simp (c .plus .ensures, c1 .times .ensures, c2 .clamp .ensures, c3 .minus .ensures, c6 .intersection-time .ensures))
+    taken _ _ (simp (c5 .crosses .ensures, c6 .intersection-time .ensures) at (c4 .if1 .taken))
+    (simp (c .plus .ensures, c1 .times .ensures, c2 .clamp .ensures, c3 .minus .ensures, c6 .intersection-time .ensures))
 
 returns-2 : tie.Need-returns-2
 unfolding lineIntersectSegmentOf
@@ -43,4 +26,4 @@ returns-2 c =
     left _ _ (simp (c1 .crosses .ensures, c2 .intersection-time .ensures) at (c .if1 .left)) refl
 
 pub line-intersect-segment-spec : {M : Type 1} → statement M
-line-intersect-segment-spec = tie.close (tie.spec intersection-time-requires crosses-requires minus-requires clamp-requires times-requires plus-requires returns returns-2)
+line-intersect-segment-spec = tie.close (tie.spec (λ c κs. search needs) (λ c κs. search needs) (λ c κs. search needs) (λ c κs. search needs) (λ c κs. search needs) (λ c κs. search needs) returns returns-2)

@@ -6,23 +6,11 @@ use Rattle.point.proofs.Cases.{left, taken}
 use Rattle.helpers.proofs.turning_point.Statement.{statement}
 use Rattle.helpers.proofs.turning_point.Tie as tie
 
-goal-beyond-requires : tie.Need-goal-beyond-requires
-goal-beyond-requires c κs = search needs
-
-same-requires : tie.Need-same-requires
-same-requires c κs = search needs
-
 returns : tie.Need-returns
 unfolding turningPointOf
 returns c =
     let c1 = c .before in
     taken _ _ (simp (c1 .same .ensures) at (c .if1 .taken)) refl
-
-side-requires : tie.Need-side-requires
-side-requires c κs = search needs
-
-same-side-requires : tie.Need-same-side-requires
-same-side-requires c κs = search needs
 
 returns-2 : tie.Need-returns-2
 unfolding turningPointOf
@@ -34,12 +22,6 @@ returns-2 c =
     let c7 = c4 .before .before .before in
     left _ _ (simp (c4 .same .ensures) at (c3 .if1 .left))
     (taken _ _ (simp (c1 .same-side .ensures, c2 .side .ensures, c7 .goal-beyond .ensures) at (c .if2 .taken)) refl)
-
-side-requires-2 : tie.Need-side-requires-2
-side-requires-2 c κs = search needs
-
-same-side-requires-2 : tie.Need-same-side-requires-2
-same-side-requires-2 c κs = search needs
 
 returns-3 : tie.Need-returns-3
 unfolding turningPointOf
@@ -72,4 +54,4 @@ returns-4 c =
     (left _ _ (simp (c1 .same-side2 .ensures, c2 .side2 .ensures, c10 .goal-beyond .ensures) at (c .if3 .left)) refl))
 
 pub turning-point-spec : {M : Type 1} → statement M
-turning-point-spec = tie.close (tie.spec goal-beyond-requires same-requires returns side-requires same-side-requires returns-2 side-requires-2 same-side-requires-2 returns-3 returns-4)
+turning-point-spec = tie.close (tie.spec (λ c κs. search needs) (λ c κs. search needs) returns (λ c κs. search needs) (λ c κs. search needs) returns-2 (λ c κs. search needs) (λ c κs. search needs) returns-3 returns-4)

@@ -5,24 +5,23 @@ use Rattle.judge.proofs.Ending.{end-is, end-is-not, end-outside}
 use Rattle.judge.proofs.judge_end.Statement.{statement}
 use Rattle.judge.proofs.judge_end.Tie as tie
 
-ending-requires : tie.Need-ending-requires
-ending-requires c κs = search needs
-
-end-requires : tie.Need-end-requires
-end-requires c κs = search needs
-
-is-at-requires : tie.Need-is-at-requires
-is-at-requires c κs = search needs
-
 returns : tie.Need-returns
 returns c =
-    let s = c .before .before .before .before .before .before .before in
-    sym (end-is (s .args .node) (s .args .goal) (s .args .to) (s .args .route .now) (s .args .i) (c .before .before .before .before .if1 .taken) _ _ _ (c .before .before .before .ending .ensures) (c .before .before .end .ensures) (c .before .is-at .ensures) (c .if2 .taken))
+    let at-end = c .before .before in
+    let at-ending = at-end .before in
+    let at-if1 = at-ending .before in
+    let s = at-if1 .before .before .before in
+    sym (end-is (s .args .node) (s .args .goal) (s .args .to) (s .args .route .now) (s .args .i) (at-if1 .if1 .taken) _ _ _ (at-ending .ending .ensures)
+    (at-end .end .ensures) (c .before .is-at .ensures) (c .if2 .taken))
 
 returns-2 : tie.Need-returns-2
 returns-2 c =
-    let s = c .before .before .before .before .before .before .before in
-    sym (end-is-not (s .args .node) (s .args .goal) (s .args .to) (s .args .route .now) (s .args .i) (c .before .before .before .before .if1 .taken) _ _ _ (c .before .before .before .ending .ensures) (c .before .before .end .ensures) (c .before .is-at .ensures) (c .if2 .left))
+    let at-end = c .before .before in
+    let at-ending = at-end .before in
+    let at-if1 = at-ending .before in
+    let s = at-if1 .before .before .before in
+    sym (end-is-not (s .args .node) (s .args .goal) (s .args .to) (s .args .route .now) (s .args .i) (at-if1 .if1 .taken) _ _ _ (at-ending .ending .ensures)
+    (at-end .end .ensures) (c .before .is-at .ensures) (c .if2 .left))
 
 returns-3 : tie.Need-returns-3
 returns-3 c =
@@ -31,4 +30,4 @@ returns-3 c =
 
 pub judge-end-spec : {M : Type 1} → statement M
 judge-end-spec =
-    tie.close (tie.spec ending-requires end-requires is-at-requires returns returns-2 returns-3)
+    tie.close (tie.spec (λ c κs. search needs) (λ c κs. search needs) (λ c κs. search needs) returns returns-2 returns-3)

@@ -31,8 +31,11 @@ judge-route-requires c κs =
 
 returns : tie.Need-returns
 returns c =
-    let s = c .before .before .before .before .before .before .before .before .before in
-    as-asked (floorOf 8 (now (s .args .vertices)) (now (s .args .polygons))) (questionOf (now (s .args .question))) _ _ (now (s .args .route)) _ _ _ (c .before .before .before .question-start .ensures) (c .before .before .question-goal .ensures) (c .judge-route .ensures)
+    let at-question-goal = c .before .before in
+    let at-question-start = at-question-goal .before in
+    let s = at-question-start .before .before .before .before .before .before in
+    as-asked (floorOf 8 (now (s .args .vertices)) (now (s .args .polygons))) (questionOf (now (s .args .question))) _ _ (now (s .args .route)) _ _ _
+    (at-question-start .question-start .ensures) (at-question-goal .question-goal .ensures) (c .judge-route .ensures)
 
 pub judge-inside-spec : {M : Type 1} → statement M
 judge-inside-spec = tie.close (tie.spec turn-vertices-requires question-start-requires question-goal-requires judge-route-requires returns)

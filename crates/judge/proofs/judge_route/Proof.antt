@@ -38,7 +38,8 @@ length-right-requires c κs = tt
 returns : tie.Need-returns Inv-loop μ-loop
 returns c =
     let s = c .before .before .before .before .before in
-    sym (begins-length (worldIn (floorOf (s .args .slots) (now (s .args .vertices)) (now (s .args .polygons))) (asked (s .args .start) (s .args .goal)) (s .args .from) (s .args .to)) (now (s .args .route)) (sym (c .before .length-right .ensures) ∙ not-true _ (c .if1 .taken)))
+    sym (begins-length (worldIn (floorOf (s .args .slots) (now (s .args .vertices)) (now (s .args .polygons))) (asked (s .args .start) (s .args .goal))
+    (s .args .from) (s .args .to)) (now (s .args .route)) (sym (c .before .length-right .ensures) ∙ not-true _ (c .if1 .taken)))
 
 seed-requires : tie.Need-seed-requires Inv-loop μ-loop
 seed-requires c κs = tt
@@ -49,14 +50,22 @@ begins-with-requires c κs = tt
 returns-2 : tie.Need-returns-2 Inv-loop μ-loop
 unfolding worldIn
 returns-2 c =
-    let s = c .before .before .before .before .before .before .before .before in
-    let right : lengthRight (now (s .args .route)) ≡ true = sym (c .before .before .before .before .length-right .ensures) ∙ not-false _ (c .before .before .before .if1 .left) in
-    sym (begins-wrong (worldIn (floorOf (s .args .slots) (now (s .args .vertices)) (now (s .args .polygons))) (asked (s .args .start) (s .args .goal)) (s .args .from) (s .args .to)) (now (s .args .route)) right (begins-tested (now (s .args .route)) (s .args .from) (s .args .start) (c .before .before .seed .ensures) (c .before .begins-with .ensures) ∙ not-true _ (c .if2 .taken)))
+    let at-seed = c .before .before in
+    let at-if1 = at-seed .before in
+    let at-length-right = at-if1 .before in
+    let s = at-length-right .before .before .before .before in
+    let right : lengthRight (now (s .args .route)) ≡ true = sym (at-length-right .length-right .ensures) ∙ not-false _ (at-if1 .if1 .left) in
+    sym (begins-wrong (worldIn (floorOf (s .args .slots) (now (s .args .vertices)) (now (s .args .polygons))) (asked (s .args .start) (s .args .goal))
+    (s .args .from) (s .args .to)) (now (s .args .route)) right
+    (begins-tested (now (s .args .route)) (s .args .from) (s .args .start) (at-seed .seed .ensures) (c .before .begins-with .ensures) ∙ not-true _
+    (c .if2 .taken)))
 
 sub-last : tie.Need-sub-last Inv-loop μ-loop
 sub-last c =
-    let s = c .before .before .before .before .before .before .before .before in
-    let right : lengthRight (now (s .args .route)) ≡ true = sym (c .before .before .before .before .length-right .ensures) ∙ not-false _ (c .before .before .before .if1 .left) in
+    let at-if1 = c .before .before .before in
+    let at-length-right = at-if1 .before in
+    let s = at-length-right .before .before .before .before in
+    let right : lengthRight (now (s .args .route)) ≡ true = sym (at-length-right .length-right .ensures) ∙ not-false _ (at-if1 .if1 .left) in
     omega (arith, length-gives (now (s .args .route)) right)
 
 seed-requires-2 : tie.Need-seed-requires-2 Inv-loop μ-loop
@@ -64,9 +73,14 @@ seed-requires-2 c κs = tt
 
 loop-holds : tie.Need-loop-holds Inv-loop μ-loop
 loop-holds c =
-    let s = c .before .before .before .before .before .before .before .before .before in
-    let right : lengthRight (now (s .args .route)) ≡ true = sym (c .before .before .before .before .before .length-right .ensures) ∙ not-false _ (c .before .before .before .before .if1 .left) in
-    (follows-begin (s .args .slots) (now (s .args .vertices)) (now (s .args .polygons)) (now (s .args .marks)) (s .pre .0) (s .args .goal) (s .args .from) (s .args .to) (now (s .args .route)) (s .args .start) (c .seed2 .result) (s .pre .1) right (c .seed2 .ensures), refl)
+    let at-if1 = c .before .before .before .before in
+    let at-length-right = at-if1 .before in
+    let s = at-length-right .before .before .before .before in
+    let right : lengthRight (now (s .args .route)) ≡ true = sym (at-length-right .length-right .ensures) ∙ not-false _ (at-if1 .if1 .left) in (
+      follows-begin (s .args .slots) (now (s .args .vertices)) (now (s .args .polygons)) (now (s .args .marks)) (s .pre .0) (s .args .goal) (s .args .from)
+          (s .args .to) (now (s .args .route)) (s .args .start) (c .seed2 .result) (s .pre .1) right (c .seed2 .ensures),
+      refl,
+    )
 
 is-step-requires : tie.Need-is-step-requires Inv-loop μ-loop
 is-step-requires c κs =
@@ -76,15 +90,25 @@ is-step-requires c κs =
 
 returns-3 : tie.Need-returns-3 Inv-loop μ-loop
 returns-3 c =
-    let l = c .before .before .before in
+    let at-loop-test = c .before .before in
+    let l = at-loop-test .before in
     let s = l .before .before .before .before .before .before .before .before .before .before in
-    let under : l .loop .i < length (now (s .args .route)) / 32 - 1 = subst (λ (n : ℕ). l .loop .i < n) (l .loop .inv .1) (c .before .before .loop-test .taken) in
-    let right : lengthRight (now (s .args .route)) ≡ true = sym (l .before .before .before .before .before .before .length-right .ensures) ∙ not-false _ (l .before .before .before .before .before .if1 .left) in
-    let seeded = begins-tested (now (s .args .route)) (s .args .from) (s .args .start) (l .before .before .before .before .seed .ensures) (l .before .before .before .begins-with .ensures) ∙ not-false _ (l .before .before .if2 .left) in
-    sym (follows-stops (s .args .slots) (now (s .args .vertices)) (now (s .args .polygons)) (now (s .args .marks)) (s .pre .0) (s .args .goal) (s .args .from) (s .args .to) (now (s .args .route)) _ (l .loop .node) (l .loop .i) (l .loop .inv .0) (s .args .start) right seeded (l .before .seed2 .ensures) under (is-missing (now (s .args .route)) (bytes-of l) (l .loop .i) (omega (arith, l .loop .inv .0 .inside, l .loop .inv .1, c .before .before .loop-test .taken)) (s .args .slots) (now (s .args .vertices)) (now (s .args .polygons)) (floor-bytes-of l) (s .args .to) (l .loop .node) (sym (c .before .is-step .ensures) ∙ not-true _ (c .if3 .taken))))
+    let under : l .loop .i < length (now (s .args .route)) / 32 - 1 = subst (λ (n : ℕ). l .loop .i < n) (l .loop .inv .1) (at-loop-test .loop-test .taken) in
+    let right : lengthRight (now (s .args .route)) ≡ true = sym (l .before .before .before .before .before .before .length-right .ensures) ∙ not-false _
+    (l .before .before .before .before .before .if1 .left) in
+    let seeded = begins-tested (now (s .args .route)) (s .args .from) (s .args .start) (l .before .before .before .before .seed .ensures)
+    (l .before .before .before .begins-with .ensures) ∙ not-false _ (l .before .before .if2 .left) in
+    sym (follows-stops (s .args .slots) (now (s .args .vertices)) (now (s .args .polygons)) (now (s .args .marks)) (s .pre .0) (s .args .goal) (s .args .from)
+    (s .args .to) (now (s .args .route)) _ (l .loop .node) (l .loop .i) (l .loop .inv .0) (s .args .start) right seeded (l .before .seed2 .ensures) under
+    (is-missing (now (s .args .route)) (bytes-of l) (l .loop .i) (omega (arith, l .loop .inv .0 .inside, l .loop .inv .1, at-loop-test .loop-test .taken))
+    (s .args .slots) (now (s .args .vertices)) (now (s .args .polygons)) (floor-bytes-of l) (s .args .to) (l .loop .node)
+    (sym (c .before .is-step .ensures) ∙ not-true _ (c .if3 .taken))))
 
 step-in-requires : tie.Need-step-in-requires Inv-loop μ-loop
-step-in-requires c κs = omega (arith, c .before .before .before .loop .inv .0 .inside, c .before .before .before .loop .inv .1, c .before .before .loop-test .taken)
+step-in-requires c κs =
+    let at-loop-test = c .before .before in
+    let at-loop = at-loop-test .before in
+    omega (arith, at-loop .loop .inv .0 .inside, at-loop .loop .inv .1, at-loop-test .loop-test .taken)
 
 enter-requires : tie.Need-enter-requires Inv-loop μ-loop
 enter-requires c κs =
@@ -104,10 +128,21 @@ loop-less c = omega (arith, c .before .before .before .before .loop-test .taken)
 
 loop-again : tie.Need-loop-again Inv-loop μ-loop
 loop-again c =
-    let l = c .before .before .before .before .before in
+    let at-if3 = c .before .before in
+    let at-is-step = at-if3 .before in
+    let at-loop-test = at-is-step .before in
+    let l = at-loop-test .before in
     let s = l .before .before .before .before .before .before .before .before .before .before in
-    let under : l .loop .i < length (now (s .args .route)) / 32 - 1 = subst (λ (n : ℕ). l .loop .i < n) (l .loop .inv .1) (c .before .before .before .before .loop-test .taken) in
-    (follows-on (s .args .slots) (now (s .args .vertices)) (now (s .args .polygons)) (now (s .args .marks)) (s .pre .0) (s .args .goal) (s .args .from) (s .args .to) (now (s .args .route)) _ (l .loop .node) (l .loop .i) (l .loop .inv .0) _ _ under (is-found (now (s .args .route)) (bytes-of l) (l .loop .i) (omega (arith, l .loop .inv .0 .inside, l .loop .inv .1, c .before .before .before .before .loop-test .taken)) (s .args .slots) (now (s .args .vertices)) (now (s .args .polygons)) (floor-bytes-of l) (s .args .to) (l .loop .node) (sym (c .before .before .before .is-step .ensures) ∙ not-false _ (c .before .before .if3 .left))) (c .enter .ensures ∙ ap (enter (floorOf (s .args .slots) (now (s .args .vertices)) (now (s .args .polygons))) (l .loop .node)) (c .before .step-in .ensures)), l .loop .inv .1)
+    let under : l .loop .i < length (now (s .args .route)) / 32 - 1 = subst (λ (n : ℕ). l .loop .i < n) (l .loop .inv .1) (at-loop-test .loop-test .taken) in (
+      follows-on (s .args .slots) (now (s .args .vertices)) (now (s .args .polygons)) (now (s .args .marks)) (s .pre .0) (s .args .goal) (s .args .from)
+          (s .args .to) (now (s .args .route)) _ (l .loop .node) (l .loop .i) (l .loop .inv .0) _ _ under
+          (is-found (now (s .args .route)) (bytes-of l) (l .loop .i) (omega (arith, l .loop .inv .0 .inside, l .loop .inv .1, at-loop-test .loop-test .taken))
+          (s .args .slots) (now (s .args .vertices)) (now (s .args .polygons)) (floor-bytes-of l) (s .args .to) (l .loop .node)
+          (sym (at-is-step .is-step .ensures) ∙ not-false _ (at-if3 .if3 .left)))
+          (c .enter .ensures ∙ ap (enter (floorOf (s .args .slots) (now (s .args .vertices)) (now (s .args .polygons))) (l .loop .node))
+          (c .before .step-in .ensures)),
+      l .loop .inv .1,
+    )
 
 judge-end-requires : tie.Need-judge-end-requires Inv-loop μ-loop
 judge-end-requires c κs =
@@ -118,10 +153,14 @@ returns-4 : tie.Need-returns-4 Inv-loop μ-loop
 returns-4 c =
     let l = c .before .before in
     let s = l .before .before .before .before .before .before .before .before .before .before in
-    let right : lengthRight (now (s .args .route)) ≡ true = sym (l .before .before .before .before .before .before .length-right .ensures) ∙ not-false _ (l .before .before .before .before .before .if1 .left) in
-    let seeded = begins-tested (now (s .args .route)) (s .args .from) (s .args .start) (l .before .before .before .before .seed .ensures) (l .before .before .before .begins-with .ensures) ∙ not-false _ (l .before .before .if2 .left) in
+    let right : lengthRight (now (s .args .route)) ≡ true = sym (l .before .before .before .before .before .before .length-right .ensures) ∙ not-false _
+    (l .before .before .before .before .before .if1 .left) in
+    let seeded = begins-tested (now (s .args .route)) (s .args .from) (s .args .start) (l .before .before .before .before .seed .ensures)
+    (l .before .before .before .begins-with .ensures) ∙ not-false _ (l .before .before .if2 .left) in
     let over : length (now (s .args .route)) / 32 - 1 ≤ l .loop .i = subst (λ (n : ℕ). n ≤ l .loop .i) (l .loop .inv .1) (c .before .loop-test .left) in
-    c .judge-end .ensures ∙ sym (follows-ends (s .args .slots) (now (s .args .vertices)) (now (s .args .polygons)) (now (s .args .marks)) (s .pre .0) (s .args .goal) (s .args .from) (s .args .to) (now (s .args .route)) _ (l .loop .node) (l .loop .i) (l .loop .inv .0) (s .args .start) right seeded (l .before .seed2 .ensures) over)
+    c .judge-end .ensures ∙ sym
+    (follows-ends (s .args .slots) (now (s .args .vertices)) (now (s .args .polygons)) (now (s .args .marks)) (s .pre .0) (s .args .goal) (s .args .from)
+    (s .args .to) (now (s .args .route)) _ (l .loop .node) (l .loop .i) (l .loop .inv .0) (s .args .start) right seeded (l .before .seed2 .ensures) over)
 
 pub judge-route-spec : {M : Type 1} → statement M
 judge-route-spec =

@@ -26,8 +26,10 @@ loop-less c = omega arith
 
 loop-again : tie.Need-loop-again Inv-loop μ-loop
 loop-again c =
-    let same = c .before .before .judge-with .ensures in
-    let inv = c .before .before .before .before .before .loop .inv in
+    let at-judge-with = c .before .before in
+    let at-loop = at-judge-with .before .before .before in
+    let same = at-judge-with .judge-with .ensures in
+    let inv = at-loop .loop .inv in
     (same ∙ inv .0, omega arith, inv .2 ∙ sym (ap length same))
 
 same-length : tie.Need-same-length Inv-loop μ-loop

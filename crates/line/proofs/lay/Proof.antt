@@ -14,7 +14,8 @@ returns c =
     let at-words = c .before .before .before in
     let at-gap = at-words .before .before in
     let at-record = at-gap .before .before in
-    let number = at-record .before .before .put-decimal .ensures in
+    let at-decimal = at-record .before .before in
+    let number = at-decimal .put-decimal .ensures in
     let recorded = at-record .put-record .ensures in
     let gap = at-gap .put-gap .ensures in
     let words = at-words .put-words .ensures in
@@ -22,12 +23,14 @@ returns c =
     let three = next 0 _ _ _ (omega arith) two (gap .0, gap .1 .0) in
     let four = next 0 _ _ _ (omega arith) three (words .0, words .1 .0) in
     let whole = fitting _ _ (next 0 _ _ _ (omega arith) four (c .put .ensures)) in
-    (whole .0, whole .1)
+    rw (← at-decimal .before .before .number .ensures) (whole .0, whole .1)
 
 pub lay-spec : {M : Type 1} → statement M
 lay-spec =
     tie.close
     (tie.spec
+    (search needs)
+    (search needs)
     (search needs)
     (search needs)
     (search needs)

@@ -6,30 +6,13 @@ use Rattle.line.proofs.Pieces.{put-part}
 use Rattle.line.proofs.put.Statement.{statement}
 use Rattle.line.proofs.put.Tie as tie
 
-sub-copy : tie.Need-sub-copy
-sub-copy c = search needs
-
-part-copy-start : tie.Need-part-copy-start
-part-copy-start c = search needs
-
-part-copy-end : tie.Need-part-copy-end
-part-copy-end c = search needs
-
-copy-requires : tie.Need-copy-requires
-copy-requires c κs = search needs
-
-add-result : tie.Need-add-result
-add-result c = search needs
-
-same-length : tie.Need-same-length
-same-length c = search needs
-
 returns : tie.Need-returns
 returns c =
-    let start = c .before .before .before .before .before .before in
-    (ap (λ n. start .args .from + n) (c .before .before .copy .ensures .0), put-part (start .args .from) _ _ (c .before .before .copy .ensures .1))
+    let at-copy = c .before .before in
+    let start = at-copy .before .before .before .before in
+    (ap (λ n. start .args .from + n) (at-copy .copy .ensures .0), put-part (start .args .from) _ _ (at-copy .copy .ensures .1))
 
 pub put-spec : {M : Type 1} → statement M
 put-spec =
     tie.close
-    (tie.spec sub-copy part-copy-start part-copy-end copy-requires add-result same-length returns)
+    (tie.spec (λ c. search needs) (λ c. search needs) (λ c. search needs) (λ c κs. search needs) (λ c. search needs) (λ c. search needs) returns)

@@ -6,27 +6,17 @@ use Rattle.line.proofs.Decimals.{spelled, at-most-20}
 use Rattle.line.proofs.put_decimal.Statement.{statement}
 use Rattle.line.proofs.put_decimal.Tie as tie
 
-decimal-requires : tie.Need-decimal-requires
-decimal-requires c κs = search needs
-
-array-share-prefix-digits : tie.Need-array-share-prefix-digits
-array-share-prefix-digits c = search needs
-
-slice-aggregate-put : tie.Need-slice-aggregate-put
-slice-aggregate-put c = search needs
-
 put-requires : tie.Need-put-requires
 put-requires c κs =
     let spelt = c .before .before .decimal .ensures in
     omega (arith, spelt .0, at-most-20 _ _ (search needs) (spelt .1 .0))
 
-same-length : tie.Need-same-length
-same-length c = search needs
-
 returns : tie.Need-returns
 returns c =
-    let put = c .before .before .put .ensures in
-    let spelt = c .before .before .before .before .before .decimal .ensures in
+    let at-put = c .before .before in
+    let at-decimal = at-put .before .before .before in
+    let put = at-put .put .ensures in
+    let spelt = at-decimal .decimal .ensures in
     let same = spelt .1 .1 ∙ spelled _ _ (spelt .1 .0) in
     (rw same at (put .0), (rw same at (put .1), omega (arith, put .0, spelt .0, at-most-20 _ _ (search needs) (spelt .1 .0))))
 
@@ -34,9 +24,9 @@ pub put-decimal-spec : {M : Type 1} → statement M
 put-decimal-spec =
     tie.close
     (tie.spec
-    decimal-requires
-    array-share-prefix-digits
-    slice-aggregate-put
+    (λ c κs. search needs)
+    (λ c. search needs)
+    (λ c. search needs)
     put-requires
-    same-length
+    (λ c. search needs)
     returns)

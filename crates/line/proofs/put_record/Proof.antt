@@ -8,8 +8,12 @@ use Rattle.line.proofs.put_record.Statement.{statement}
 use Rattle.line.proofs.put_record.Tie as tie
 
 returns : tie.Need-returns
+unfolding recordPart
+returns c = rw (c .enum-told .given .1) (omega arith, (put-nothing _ _, omega arith))
+
+returns-2 : tie.Need-returns-2
 unfolding recordPart bytesOf
-returns c =
+returns-2 c =
     let at-decimal = c .before .before in
     let at-mark = at-decimal .before .before .before .before in
     let arm = at-mark .before .before .before .before in
@@ -17,11 +21,11 @@ returns c =
     let marked = at-mark .put .ensures in
     let counted = at-decimal .put-decimal .ensures in
     let both = next (start .args .from) _ _ _ (omega arith) (marked .0, marked .1) (counted .0, counted .1 .0) in
-    rw (arm .at .given .1) (both .0, (both .1, omega (arith, marked .0, counted .1 .1)))
+    rw (arm .told .given .1) (both .0, (both .1, omega (arith, marked .0, counted .1 .1)))
 
-returns-2 : tie.Need-returns-2
+returns-3 : tie.Need-returns-3
 unfolding recordPart
-returns-2 c = rw (c .enum-told .given .1) (omega arith, (put-nothing _ _, omega arith))
+returns-3 c = rw (c .enum-told2 .given .1) (omega arith, (put-nothing _ _, omega arith))
 
 pub put-record-spec : {M : Type 1} → statement M
 put-record-spec =
@@ -34,4 +38,6 @@ put-record-spec =
     (search needs)
     (search needs)
     returns
-    returns-2)
+    (search needs)
+    returns-2
+    returns-3)

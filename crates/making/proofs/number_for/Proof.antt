@@ -6,16 +6,11 @@ use Rattle.places.proofs.Records.{record-for-equal}
 use Rattle.making.proofs.number_for.Statement.{statement}
 use Rattle.making.proofs.number_for.Tie as tie
 
-same-requires : tie.Need-same-requires
-same-requires c κs = search needs
-
 returns : tie.Need-returns
 returns c =
     let s = c .before .before .before in
-    sym (record-for-equal (now (s .args .floats)) (s .args .records) (s .args .root) (s .args .old) (sym (c .before .same .ensures) ∙ c .if1 .taken) ∙ s .pre .1)
-
-record-for-requires : tie.Need-record-for-requires
-record-for-requires c κs = search needs
+    sym (record-for-equal (now (s .args .floats)) (s .args .records) (s .args .root) (s .args .old)
+    (sym (c .before .same .ensures) ∙ c .if1 .taken) ∙ s .pre .1)
 
 returns-2 : tie.Need-returns-2
 returns-2 c = c .record-for .ensures
@@ -23,4 +18,4 @@ returns-2 c = c .record-for .ensures
 pub number-for-spec : {M : Type 1} → statement M
 number-for-spec =
     tie.close
-    (tie.spec same-requires returns record-for-requires returns-2)
+    (tie.spec (λ c κs. search needs) returns (λ c κs. search needs) returns-2)

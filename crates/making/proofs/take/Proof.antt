@@ -3,8 +3,9 @@ use borrow.Author.Needs.{needs}
 use denote.Ref.{now}
 use native.Mathlib.Omega.{arith}
 use Rattle.places.proofs.Records.{record-for-le}
-use Rattle.machine.specs.Search.{tookPlace}
-use Rattle.making.proofs.Keeping.{still-found, takes}
+use Rattle.places.specs.Layout.{workOf}
+use Rattle.machine.specs.Search.{stateOf, tookPlace}
+use Rattle.making.proofs.Keeping.{still-found, tree-on-node, takes}
 use Rattle.making.proofs.take.Statement.{statement}
 use Rattle.making.proofs.take.Tie as tie
 
@@ -13,19 +14,19 @@ number-for-requires c κs =
     let s = c .before .before .before .before .before in
     (omega (arith, s .pre .0 .records-in, s .pre .0 .room .floats-room, s .pre .1 .0), s .pre .1 .3 .found)
 
-put-floats-requires : tie.Need-put-floats-requires
-put-floats-requires c κs = search needs
-
-cast-put-words : tie.Need-cast-put-words
-cast-put-words c = search needs
-
-add-put-words : tie.Need-add-put-words
-add-put-words c = search needs
-
 cast-put-words-2 : tie.Need-cast-put-words-2
 cast-put-words-2 c =
-    let s = c .before .before .before .before .before .before .before .before .before .before .before .before .before in
-    omega (arith, record-for-le (now (s .args .floats)) (s .args .counts .records) (s .args .node .root), c .before .before .before .before .before .before .before .number-for .ensures, s .pre .0 .records-in, s .pre .0 .room .few, s .pre .1 .0)
+    let at-number-for = c .before .before .before .before .before .before .before in
+    let s = at-number-for .before .before .before .before .before .before in
+    omega (
+      arith,
+      record-for-le (now (s .args .floats)) (s .args .counts .records)
+          (s .args .node .root),
+      at-number-for .number-for .ensures,
+      s .pre .0 .records-in,
+      s .pre .0 .room .few,
+      s .pre .1 .0,
+    )
 
 put-words-requires : tie.Need-put-words-requires
 put-words-requires c κs =
@@ -39,37 +40,50 @@ add-t24 c =
 
 keep-requires : tie.Need-keep-requires
 keep-requires c κs =
-    let s = c .before .before .before .before .before .before .before .before .before .before .before .before .before .before .before .before .before .before in
-    ((omega (arith, c .before .before .before .before .before .before .before .before .before .before .put-floats .kept .0, s .pre .0 .room .floats-room), s .pre .0 .room .queue-room, s .pre .0 .room .few, s .pre .1 .0, omega (arith, s .pre .0 .records-in, s .pre .1 .0)), still-found (now (s .args .floats)) (s .args .counts .taken) (s .args .node) (s .args .f) (s .args .counts .records) (c .before .before .before .before .before .before .before .before .before .before .before .before .number-for .ensures) (c .before .before .before .before .before .before .before .before .before .before .put-floats .ensures))
-
-same-length : tie.Need-same-length
-same-length c = search needs
-
-same-length-2 : tie.Need-same-length-2
-same-length-2 c = search needs
-
-same-length-3 : tie.Need-same-length-3
-same-length-3 c = search needs
+    let at-put-floats = c .before .before .before .before .before .before .before .before .before .before in
+    let at-number-for = at-put-floats .before .before in
+    let s = at-number-for .before .before .before .before .before .before in (
+      (
+        omega (arith, at-put-floats .put-floats .kept .0, s .pre .0 .room .floats-room),
+        s .pre .0 .room .queue-room,
+        s .pre .0 .room .few,
+        s .pre .1 .0,
+        omega
+            (arith, s .pre .0 .records-in, s .pre .1 .0),
+      ),
+      (
+        still-found (now (s .args .floats)) (s .args .counts .taken) (s .args .node) (s .args .f)
+            (s .args .counts .records) (at-number-for .number-for .ensures) (at-put-floats .put-floats .ensures),
+        tree-on-node (s .args .task) (stateOf (workOf (now (s .args .floats)) (now (s .args .words)) (now (s .args .tree))) (s .args .counts)) (s .pre .0)
+            (s .args .node) (s .args .f) (at-put-floats .put-floats .ensures),
+      ),
+    )
 
 returns : tie.Need-returns
 unfolding tookPlace
 returns c =
-    let s = c .before .before .before .before .before .before .before .before .before .before .before .before .before .before .before .before .before .before .before .before .before .before .before in
-    takes (s .args .task .places) (now (s .args .floats)) (now (s .args .words)) (now (s .args .tree)) (s .args .counts) (s .args .from) (s .args .kind) (s .args .node) (s .args .f) (c .before .before .before .before .before .before .before .before .before .before .before .before .before .before .before .before .before .number-for .ensures) (c .before .before .before .before .before .before .before .before .before .before .before .before .before .before .before .put-floats .ensures) (c .before .before .before .before .before .before .before .before .before .put-words .ensures) (c .before .before .before .before .keep .ensures _)
+    let at-keep = c .before .before .before .before in
+    let at-put-words = at-keep .before .before .before .before .before in
+    let at-put-floats = at-put-words .before .before .before .before .before .before in
+    let at-number-for = at-put-floats .before .before in
+    let s = at-number-for .before .before .before .before .before .before in
+    takes (s .args .task .places) (now (s .args .floats)) (now (s .args .words)) (now (s .args .tree)) (s .args .counts) (s .args .from) (s .args .kind)
+    (s .args .node) (s .args .f) (at-number-for .number-for .ensures) (at-put-floats .put-floats .ensures) (at-put-words .put-words .ensures)
+    (at-keep .keep .ensures _)
 
 pub take-spec : {M : Type 1} → statement M
 take-spec =
     tie.close
     (tie.spec
     number-for-requires
-    put-floats-requires
-    cast-put-words
-    add-put-words
+    (λ c κs. search needs)
+    (λ c. search needs)
+    (λ c. search needs)
     cast-put-words-2
     put-words-requires
     add-t24
     keep-requires
-    same-length
-    same-length-2
-    same-length-3
+    (λ c. search needs)
+    (λ c. search needs)
+    (λ c. search needs)
     returns)

@@ -7,77 +7,23 @@ use Rattle.places.specs.Layout.{putWords, puts}
 use Rattle.places.proofs.put_words.Statement.{statement}
 use Rattle.places.proofs.put_words.Tie as tie
 
-mul-row : tie.Need-mul-row
-mul-row c = search needs
-
-add-words : tie.Need-add-words
-add-words c = search needs
-
-mul-words : tie.Need-mul-words
-mul-words c = search needs
-
-slice-write-words : tie.Need-slice-write-words
-slice-write-words c = search needs
-
-add-words-2 : tie.Need-add-words-2
-add-words-2 c = search needs
-
-mul-words-2 : tie.Need-mul-words-2
-mul-words-2 c = search needs
-
 slice-write-words-2 : tie.Need-slice-write-words-2
 slice-write-words-2 c = simp length-set (omega arith)
-
-add-words-3 : tie.Need-add-words-3
-add-words-3 c = search needs
-
-mul-words-3 : tie.Need-mul-words-3
-mul-words-3 c = search needs
 
 slice-write-words-3 : tie.Need-slice-write-words-3
 slice-write-words-3 c = simp length-set (omega arith)
 
-add-words-4 : tie.Need-add-words-4
-add-words-4 c = search needs
-
-mul-words-4 : tie.Need-mul-words-4
-mul-words-4 c = search needs
-
 slice-write-words-4 : tie.Need-slice-write-words-4
 slice-write-words-4 c = simp length-set (omega arith)
-
-add-words-5 : tie.Need-add-words-5
-add-words-5 c = search needs
-
-mul-words-5 : tie.Need-mul-words-5
-mul-words-5 c = search needs
 
 slice-write-words-5 : tie.Need-slice-write-words-5
 slice-write-words-5 c = simp length-set (omega arith)
 
-add-words-6 : tie.Need-add-words-6
-add-words-6 c = search needs
-
-mul-words-6 : tie.Need-mul-words-6
-mul-words-6 c = search needs
-
 slice-write-words-6 : tie.Need-slice-write-words-6
 slice-write-words-6 c = simp length-set (omega arith)
 
-add-words-7 : tie.Need-add-words-7
-add-words-7 c = search needs
-
-mul-words-7 : tie.Need-mul-words-7
-mul-words-7 c = search needs
-
 slice-write-words-7 : tie.Need-slice-write-words-7
 slice-write-words-7 c = simp length-set (omega arith)
-
-add-words-8 : tie.Need-add-words-8
-add-words-8 c = search needs
-
-mul-words-8 : tie.Need-mul-words-8
-mul-words-8 c = search needs
 
 slice-write-words-8 : tie.Need-slice-write-words-8
 slice-write-words-8 c = simp length-set (omega arith)
@@ -92,4 +38,7 @@ returns c = refl
 pub put-words-spec : {M : Type 1} → statement M
 put-words-spec =
     tie.close
-    (tie.spec mul-row add-words mul-words slice-write-words add-words-2 mul-words-2 slice-write-words-2 add-words-3 mul-words-3 slice-write-words-3 add-words-4 mul-words-4 slice-write-words-4 add-words-5 mul-words-5 slice-write-words-5 add-words-6 mul-words-6 slice-write-words-6 add-words-7 mul-words-7 slice-write-words-7 add-words-8 mul-words-8 slice-write-words-8 same-length returns)
+    (tie.spec (λ c. search needs) (λ c. search needs) (λ c. search needs) (λ c. search needs) (λ c. search needs) (λ c. search needs) slice-write-words-2
+    (λ c. search needs) (λ c. search needs) slice-write-words-3 (λ c. search needs) (λ c. search needs) slice-write-words-4 (λ c. search needs)
+    (λ c. search needs) slice-write-words-5 (λ c. search needs) (λ c. search needs) slice-write-words-6 (λ c. search needs)
+    (λ c. search needs) slice-write-words-7 (λ c. search needs) (λ c. search needs) slice-write-words-8 same-length returns)

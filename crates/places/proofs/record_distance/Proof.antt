@@ -5,18 +5,6 @@ use Rattle.places.specs.Layout.{recordDistance, floatAt}
 use Rattle.places.proofs.record_distance.Statement.{statement}
 use Rattle.places.proofs.record_distance.Tie as tie
 
-mul-result : tie.Need-mul-result
-mul-result c = search needs
-
-add-result : tie.Need-add-result
-add-result c = search needs
-
-mul-result-2 : tie.Need-mul-result-2
-mul-result-2 c = search needs
-
-shared-slice-read-result : tie.Need-shared-slice-read-result
-shared-slice-read-result c = search needs
-
 returns : tie.Need-returns
 unfolding recordDistance floatAt
 returns c = refl
@@ -24,4 +12,4 @@ returns c = refl
 pub record-distance-spec : {M : Type 1} → statement M
 record-distance-spec =
     tie.close
-    (tie.spec mul-result add-result mul-result-2 shared-slice-read-result returns)
+    (tie.spec (λ c. search needs) (λ c. search needs) (λ c. search needs) (λ c. search needs) returns)

@@ -29,7 +29,10 @@ same-requires c κs = search needs
 
 returns : tie.Need-returns Inv-loop μ-loop
 unfolding recordFor
-returns c = sym (first-is _ _ _ (omega arith) (c .before .before .before .before .loop .inv .1) (λ l. rw (← c .before .before .record-root .ensures, ← c .before .same .ensures, c .if1 .taken)))
+returns c =
+    let at-record-root = c .before .before in
+    let at-loop = at-record-root .before .before in
+    sym (first-is _ _ _ (omega arith) (at-loop .loop .inv .1) (λ l. rw (← at-record-root .record-root .ensures, ← c .before .same .ensures, c .if1 .taken)))
 
 add-r : tie.Need-add-r Inv-loop μ-loop
 add-r c = omega arith
@@ -38,7 +41,10 @@ loop-less : tie.Need-loop-less Inv-loop μ-loop
 loop-less c = omega arith
 
 loop-again : tie.Need-loop-again Inv-loop μ-loop
-loop-again c = (omega arith, below-more _ _ (c .before .before .before .before .loop .inv .1) (rw (← c .before .before .record-root .ensures, ← c .before .same .ensures, c .if1 .left)))
+loop-again c =
+    let at-record-root = c .before .before in
+    let at-loop = at-record-root .before .before in
+    (omega arith, below-more _ _ (at-loop .loop .inv .1) (rw (← at-record-root .record-root .ensures, ← c .before .same .ensures, c .if1 .left)))
 
 returns-2 : tie.Need-returns-2 Inv-loop μ-loop
 unfolding recordFor

@@ -5,12 +5,6 @@ use Rattle.point.proofs.Cases.{and-left, and-taken}
 use Rattle.point.proofs.between.Statement.{statement}
 use Rattle.point.proofs.between.Tie as tie
 
-min-requires : tie.Need-min-requires
-min-requires c κs = search needs
-
-max-requires : tie.Need-max-requires
-max-requires c κs = search needs
-
 returns : tie.Need-returns
 unfolding betweenOf
 returns c =
@@ -25,4 +19,4 @@ returns-2 c =
     and-left _ _ (simp (c1 .min .ensures) at (c .if1 .left)) (c .if1 .left)
 
 pub between-spec : {M : Type 1} → statement M
-between-spec = tie.close (tie.spec min-requires max-requires returns returns-2)
+between-spec = tie.close (tie.spec (λ c κs. search needs) (λ c κs. search needs) returns returns-2)

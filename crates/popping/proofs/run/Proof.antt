@@ -11,41 +11,58 @@ use Rattle.popping.proofs.run.Statement.{statement}
 use Rattle.popping.proofs.run.Tie as tie
 
 abbrev Inv-loop : tie.InvT-loop
-Inv-loop vertices polygons marks task budget floats₀ words₀ tree₀ counts₀ left₀ floats words tree counts left =
-    Runs vertices polygons task budget (stateOf (workOf floats₀ words₀ tree₀) counts₀) (stateOf (workOf floats words tree) counts) left
+Inv-loop vertices polygons plan task budget floats₀ words₀ tree₀ counts₀ left₀ floats words tree counts left =
+    Runs plan vertices polygons task budget (stateOf (workOf floats₀ words₀ tree₀) counts₀) (stateOf (workOf floats words tree) counts) left
 
 abbrev μ-loop : tie.MeasureT-loop
-μ-loop vertices polygons marks task budget floats₀ words₀ tree₀ counts₀ left₀ floats words tree counts left = left
+μ-loop vertices polygons plan task budget floats₀ words₀ tree₀ counts₀ left₀ floats words tree counts left = left
 
 loop-holds : tie.Need-loop-holds Inv-loop μ-loop
 loop-holds c =
     let s = c .before .before .before .before .before in
-    runs-begin (now (s .args .vertices)) (now (s .args .polygons)) (s .args .task) (s .args .budget) (stateOf (workOf (now (s .args .floats)) (now (s .args .words)) (now (s .args .tree))) (s .args .counts)) (s .pre .1 .0)
+    runs-begin (now (s .args .plan)) (now (s .args .vertices)) (now (s .args .polygons)) (s .args .task) (s .args .budget)
+    (stateOf (workOf (now (s .args .floats)) (now (s .args .words)) (now (s .args .tree))) (s .args .counts)) (s .pre .1 .0)
 
 turn-requires : tie.Need-turn-requires Inv-loop μ-loop
 turn-requires c κs =
-    let s = c .before .before .before .before .before .before .before .before .before .before in
-    let l = c .before .before .before .before .loop in
-    (s .pre .0, (l .inv .sound, omega (arith, l .inv .count, s .pre .1 .1, c .before .before .before .loop-test .taken)))
+    let at-loop-test = c .before .before .before in
+    let at-loop = at-loop-test .before in
+    let s = at-loop .before .before .before .before .before .before in
+    let l = at-loop .loop in
+    (s .pre .0, (l .inv .sound, omega (arith, l .inv .count, s .pre .1 .1, at-loop-test .loop-test .taken)))
 
 enum-known-outcome : tie.Need-enum-known-outcome Inv-loop μ-loop
 enum-known-outcome c = search needs
 
 same-length : tie.Need-same-length Inv-loop μ-loop
-same-length c = c .before .before .before .before .before .before .before .before .before .before .turn .kept .1 .1 .1 .1 .1 .0 ∙ c .before .before .before .before .before .before .before .before .before .before .before .before .before .before .before .loop .inv .long .floats-long
+same-length c =
+    let at-turn = c .before .before .before .before .before .before .before .before .before .before in
+    let at-loop = at-turn .before .before .before .before .before in
+    at-turn .turn .kept .1 .1 .1 .1 .1 .0 ∙ at-loop .loop .inv .long .floats-long
 
 same-length-2 : tie.Need-same-length-2 Inv-loop μ-loop
-same-length-2 c = c .before .before .before .before .before .before .before .before .before .before .turn .kept .1 .1 .1 .1 .1 .1 .0 ∙ c .before .before .before .before .before .before .before .before .before .before .before .before .before .before .before .loop .inv .long .words-long
+same-length-2 c =
+    let at-turn = c .before .before .before .before .before .before .before .before .before .before in
+    let at-loop = at-turn .before .before .before .before .before in
+    at-turn .turn .kept .1 .1 .1 .1 .1 .1 .0 ∙ at-loop .loop .inv .long .words-long
 
 same-length-3 : tie.Need-same-length-3 Inv-loop μ-loop
-same-length-3 c = c .before .before .before .before .before .before .before .before .before .before .turn .kept .1 .1 .1 .1 .1 .1 .1 .0 ∙ c .before .before .before .before .before .before .before .before .before .before .before .before .before .before .before .loop .inv .long .queue-long
+same-length-3 c =
+    let at-turn = c .before .before .before .before .before .before .before .before .before .before in
+    let at-loop = at-turn .before .before .before .before .before in
+    at-turn .turn .kept .1 .1 .1 .1 .1 .1 .1 .0 ∙ at-loop .loop .inv .long .queue-long
 
 returns : tie.Need-returns Inv-loop μ-loop
 returns c =
-    let s = c .before .before .before .before .before .before .before .before .before .before .before .before .before .before .before .before .before .before .before .before .before in
-    let l = c .before .before .before .before .before .before .before .before .before .before .before .before .before .before .before .loop in
+    let at-turn = c .before .before .before .before .before .before .before .before .before .before in
+    let at-loop-test = at-turn .before .before .before .before in
+    let at-loop = at-loop-test .before in
+    let s = at-loop .before .before .before .before .before .before in
+    let l = at-loop .loop in
     let at = stateOf (workOf (l .floats) (l .words) (l .tree)) (l .counts) in
-    runs-ends (now (s .args .vertices)) (now (s .args .polygons)) (now (s .args .marks)) (s .args .task) (s .args .budget) (stateOf (workOf (now (s .args .floats)) (now (s .args .words)) (now (s .args .tree))) (s .args .counts)) at (l .left) (s .pre .0) (l .inv) (c .before .before .before .before .before .before .before .before .before .before .before .before .before .before .loop-test .taken) _ (c .before .before .before .before .before .before .before .before .before .before .turn .ensures) (c .before .outcome .given .1)
+    runs-ends (now (s .args .plan)) (now (s .args .vertices)) (now (s .args .polygons)) (s .args .task) (s .args .budget)
+    (stateOf (workOf (now (s .args .floats)) (now (s .args .words)) (now (s .args .tree))) (s .args .counts)) at (l .left) (s .pre .0) (l .inv)
+    (at-loop-test .loop-test .taken) _ (at-turn .turn .ensures) (c .before .outcome .given .1)
 
 enum-told : tie.Need-enum-told Inv-loop μ-loop
 enum-told c = search needs
@@ -58,15 +75,22 @@ loop-less c = omega arith
 
 loop-again : tie.Need-loop-again Inv-loop μ-loop
 loop-again c =
-    let s = c .before .before .before .before .before .before .before .before .before .before .before .before .before .before .before .before .before .before .before .before in
-    let l = c .before .before .before .before .before .before .before .before .before .before .before .before .before .before .loop in
+    let at-turn = c .before .before .before .before .before .before .before .before .before in
+    let at-loop-test = at-turn .before .before .before .before in
+    let at-loop = at-loop-test .before in
+    let s = at-loop .before .before .before .before .before .before in
+    let l = at-loop .loop in
     let at = stateOf (workOf (l .floats) (l .words) (l .tree)) (l .counts) in
-    runs-next (now (s .args .vertices)) (now (s .args .polygons)) (now (s .args .marks)) (s .args .task) (s .args .budget) (stateOf (workOf (now (s .args .floats)) (now (s .args .words)) (now (s .args .tree))) (s .args .counts)) at (l .left) (s .pre .0) (l .inv) (c .before .before .before .before .before .before .before .before .before .before .before .before .before .loop-test .taken) _ (c .before .before .before .before .before .before .before .before .before .turn .ensures) (c .enum-told .given .1) (record { floats-long = c .before .before .before .before .before .before .before .before .before .turn .kept .1 .1 .1 .1 .1 .0; words-long = c .before .before .before .before .before .before .before .before .before .turn .kept .1 .1 .1 .1 .1 .1 .0; queue-long = c .before .before .before .before .before .before .before .before .before .turn .kept .1 .1 .1 .1 .1 .1 .1 .0 })
+    runs-next (now (s .args .plan)) (now (s .args .vertices)) (now (s .args .polygons)) (s .args .task) (s .args .budget)
+    (stateOf (workOf (now (s .args .floats)) (now (s .args .words)) (now (s .args .tree))) (s .args .counts)) at (l .left) (s .pre .0) (l .inv)
+    (at-loop-test .loop-test .taken) _ (at-turn .turn .ensures) (c .enum-told .given .1)
+    (record { floats-long = at-turn .turn .kept .1 .1 .1 .1 .1 .0; words-long = at-turn .turn .kept .1 .1 .1 .1 .1 .1 .0; queue-long = at-turn .turn .kept .1 .1 .1 .1 .1 .1 .1 .0 })
 
 least-requires : tie.Need-least-requires Inv-loop μ-loop
 least-requires c κs =
-    let s = c .before .before .before .before .before .before .before .before in
-    let h = c .before .before .loop .inv .sound .sound in
+    let at-loop = c .before .before in
+    let s = at-loop .before .before .before .before .before .before in
+    let h = at-loop .loop .inv .sound .sound in
     omega (arith, h .some, h .taken-in, h .fit .room .queue-room)
 
 same-length-4 : tie.Need-same-length-4 Inv-loop μ-loop
@@ -80,10 +104,16 @@ same-length-6 c = c .before .before .before .before .loop .inv .long .queue-long
 
 returns-2 : tie.Need-returns-2 Inv-loop μ-loop
 returns-2 c =
-    let s = c .before .before .before .before .before .before .before .before .before .before in
-    let l = c .before .before .before .before .loop in
+    let at-loop-test = c .before .before .before in
+    let at-loop = at-loop-test .before in
+    let s = at-loop .before .before .before .before .before .before in
+    let l = at-loop .loop in
     let at = stateOf (workOf (l .floats) (l .words) (l .tree)) (l .counts) in
-    runs-empty (now (s .args .vertices)) (now (s .args .polygons)) (now (s .args .marks)) (s .args .task) (s .args .budget) (stateOf (workOf (now (s .args .floats)) (now (s .args .words)) (now (s .args .tree))) (s .args .counts)) at (l .left) (s .pre .0) (l .inv) (c .before .before .before .loop-test .left) (least-is (now (s .args .vertices)) (now (s .args .polygons)) (s .args .task) (l .floats) (l .words) (l .tree) (l .counts) (l .inv .sound) (c .before .least .ensures .1)) (c .if1 .taken)
+    runs-empty (now (s .args .plan)) (now (s .args .vertices)) (now (s .args .polygons)) (s .args .task) (s .args .budget)
+    (stateOf (workOf (now (s .args .floats)) (now (s .args .words)) (now (s .args .tree))) (s .args .counts)) at (l .left) (s .pre .0) (l .inv)
+    (at-loop-test .loop-test .left)
+    (least-is (now (s .args .plan)) (now (s .args .vertices)) (now (s .args .polygons)) (s .args .task) (l .floats) (l .words) (l .tree) (l .counts) (l .inv .sound)
+    (c .before .least .ensures .1)) (c .if1 .taken)
 
 same-length-7 : tie.Need-same-length-7 Inv-loop μ-loop
 same-length-7 c = c .before .before .before .before .loop .inv .long .floats-long
@@ -96,10 +126,16 @@ same-length-9 c = c .before .before .before .before .loop .inv .long .queue-long
 
 returns-3 : tie.Need-returns-3 Inv-loop μ-loop
 returns-3 c =
-    let s = c .before .before .before .before .before .before .before .before .before .before in
-    let l = c .before .before .before .before .loop in
+    let at-loop-test = c .before .before .before in
+    let at-loop = at-loop-test .before in
+    let s = at-loop .before .before .before .before .before .before in
+    let l = at-loop .loop in
     let at = stateOf (workOf (l .floats) (l .words) (l .tree)) (l .counts) in
-    runs-out (now (s .args .vertices)) (now (s .args .polygons)) (now (s .args .marks)) (s .args .task) (s .args .budget) (stateOf (workOf (now (s .args .floats)) (now (s .args .words)) (now (s .args .tree))) (s .args .counts)) at (l .left) (s .pre .0) (l .inv) (c .before .before .before .loop-test .left) (least-is (now (s .args .vertices)) (now (s .args .polygons)) (s .args .task) (l .floats) (l .words) (l .tree) (l .counts) (l .inv .sound) (c .before .least .ensures .1)) (c .if1 .left)
+    runs-out (now (s .args .plan)) (now (s .args .vertices)) (now (s .args .polygons)) (s .args .task) (s .args .budget)
+    (stateOf (workOf (now (s .args .floats)) (now (s .args .words)) (now (s .args .tree))) (s .args .counts)) at (l .left) (s .pre .0) (l .inv)
+    (at-loop-test .loop-test .left)
+    (least-is (now (s .args .plan)) (now (s .args .vertices)) (now (s .args .polygons)) (s .args .task) (l .floats) (l .words) (l .tree) (l .counts) (l .inv .sound)
+    (c .before .least .ensures .1)) (c .if1 .left)
 
 pub run-spec : {M : Type 1} → statement M
 run-spec =

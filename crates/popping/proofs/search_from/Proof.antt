@@ -8,67 +8,99 @@ use Rattle.popping.proofs.Running.{first-fit, first-leaves, first-apart
 use Rattle.popping.proofs.search_from.Statement.{statement}
 use Rattle.popping.proofs.search_from.Tie as tie
 
-cast-seed : tie.Need-cast-seed
-cast-seed c = search needs
-
-seed-requires : tie.Need-seed-requires
-seed-requires c κs = search needs
-
-plant-requires : tie.Need-plant-requires
-plant-requires c κs = search needs
-
 make-steps-requires : tie.Need-make-steps-requires
 make-steps-requires c κs =
-    let s = c .before .before .before .before .before .before .before .before .before .before .before .before .before .before .before .before .before .before .before in
-    (first-fit (now (s .args .vertices)) (now (s .args .polygons)) (now (s .args .marks)) (s .args .task) (s .args .start) (s .args .p) (workOf (now (s .args .floats)) (now (s .args .words)) (now (s .args .tree))) (s .pre .0) (s .pre .1 .0 .0) (s .pre .1 .0 .1) (s .pre .1 .1 .0) (s .pre .1 .1 .1) (s .pre .1 .1 .2) (c .before .before .before .before .before .before .before .before .before .before .before .before .before .seed .ensures) (c .before .before .before .before .before .before .before .before .before .plant .ensures _), (first-leaves (now (s .args .vertices)) (now (s .args .polygons)) (now (s .args .marks)) (s .args .task) (s .args .start) (s .args .p) (workOf (now (s .args .floats)) (now (s .args .words)) (now (s .args .tree))) (s .pre .0) (s .pre .1 .0 .0) (s .pre .1 .0 .1) (s .pre .1 .1 .0) (s .pre .1 .1 .1) (s .pre .1 .1 .2) (c .before .before .before .before .before .before .before .before .before .before .before .before .before .seed .ensures) (c .before .before .before .before .before .before .before .before .before .plant .ensures _), (s .pre .0, first-apart (now (s .args .vertices)) (now (s .args .polygons)) (now (s .args .marks)) (s .args .task) (s .args .start) (s .args .p) (workOf (now (s .args .floats)) (now (s .args .words)) (now (s .args .tree))) (s .pre .0) (s .pre .1 .0 .0) (s .pre .1 .0 .1) (s .pre .1 .1 .0) (s .pre .1 .1 .1) (s .pre .1 .1 .2) (c .before .before .before .before .before .before .before .before .before .before .before .before .before .seed .ensures) (c .before .before .before .before .before .before .before .before .before .plant .ensures _))))
-
-same-length : tie.Need-same-length
-same-length c = search needs
-
-same-length-2 : tie.Need-same-length-2
-same-length-2 c = search needs
-
-same-length-3 : tie.Need-same-length-3
-same-length-3 c = search needs
+    let at-plant = c .before .before .before .before .before .before .before .before .before in
+    let at-seed = at-plant .before .before .before .before in
+    let s = at-seed .before .before .before .before .before .before .before in (
+      first-fit _ _ _ (s .args .task)
+          (workOf (now (s .args .floats)) (now (s .args .words)) (now (s .args .tree))) (s .pre .0) (s .pre .1 .0 .0) (s .pre .1 .0 .1) (s .pre .1 .1 .0)
+          (s .pre .1 .1 .1) (s .pre .1 .1 .2) (at-seed .seed .ensures) (at-plant .plant .ensures _),
+      (
+        first-leaves _ _ _ (s .args .task)
+            (workOf (now (s .args .floats)) (now (s .args .words)) (now (s .args .tree))) (s .pre .0) (s .pre .1 .0 .0) (s .pre .1 .0 .1) (s .pre .1 .1 .0)
+            (s .pre .1 .1 .1) (s .pre .1 .1 .2) (at-seed .seed .ensures) (at-plant .plant .ensures _),
+        (
+          s .pre .0,
+          first-apart _ _ _ (s .args .task)
+              (workOf (now (s .args .floats)) (now (s .args .words)) (now (s .args .tree))) (s .pre .0) (s .pre .1 .0 .0) (s .pre .1 .0 .1) (s .pre .1 .1 .0)
+              (s .pre .1 .1 .1) (s .pre .1 .1 .2) (at-seed .seed .ensures) (at-plant .plant .ensures _),
+        ),
+      ),
+    )
 
 returns : tie.Need-returns
 returns c =
-    let s = c .before .before .before .before .before .before .before .before .before .before .before .before .before .before .before .before .before .before .before .before .before .before .before .before .before .before .before .before in
-    searches-full (now (s .args .vertices)) (now (s .args .polygons)) (now (s .args .marks)) (s .args .task) (s .args .start) (s .args .p) (workOf (now (s .args .floats)) (now (s .args .words)) (now (s .args .tree))) (s .pre .0) (s .pre .1 .0 .0) (s .pre .1 .0 .1) (s .pre .1 .1 .0) (s .pre .1 .1 .1) (s .pre .1 .1 .2) (c .before .before .before .before .before .before .before .before .before .before .before .before .before .before .before .before .before .before .before .before .before .before .seed .ensures) (c .before .before .before .before .before .before .before .before .before .before .before .before .before .before .before .before .before .before .plant .ensures _) _ (c .before .before .before .before .before .before .before .before .make-steps .ensures) (s .args .budget) (c .if1 .taken)
+    let at-make-steps = c .before .before .before .before .before .before .before .before in
+    let at-plant = at-make-steps .before .before .before .before .before .before .before .before .before .before in
+    let at-seed = at-plant .before .before .before .before in
+    let s = at-seed .before .before .before .before .before .before .before in
+    searches-full _ _ _ (s .args .task)
+    (workOf (now (s .args .floats)) (now (s .args .words)) (now (s .args .tree))) (s .pre .0) (s .pre .1 .0 .0) (s .pre .1 .0 .1) (s .pre .1 .1 .0)
+    (s .pre .1 .1 .1) (s .pre .1 .1 .2) (at-seed .seed .ensures) (at-plant .plant .ensures _) _ (at-make-steps .make-steps .ensures) (s .args .budget)
+    (c .if1 .taken)
 
 run-requires : tie.Need-run-requires
 run-requires c κs =
-    let s = c .before .before .before .before .before .before .before .before .before .before .before .before .before .before .before .before .before .before .before .before .before .before .before .before .before .before .before .before .before .before .before in
-    (s .pre .0, (made-sound (now (s .args .vertices)) (now (s .args .polygons)) (now (s .args .marks)) (s .args .task) (s .args .start) (s .args .p) (workOf (now (s .args .floats)) (now (s .args .words)) (now (s .args .tree))) (s .pre .0) (s .pre .1 .0 .0) (s .pre .1 .0 .1) (s .pre .1 .1 .0) (s .pre .1 .1 .1) (s .pre .1 .1 .2) (c .before .before .before .before .before .before .before .before .before .before .before .before .before .before .before .before .before .before .before .before .before .before .before .before .before .seed .ensures) (c .before .before .before .before .before .before .before .before .before .before .before .before .before .before .before .before .before .before .before .before .before .plant .ensures _) _ (c .before .before .before .before .before .before .before .before .before .before .before .make-steps .ensures), omega (arith, made-uncounted (now (s .args .vertices)) (now (s .args .polygons)) (now (s .args .marks)) (s .args .task) (s .args .start) (s .args .p) (workOf (now (s .args .floats)) (now (s .args .words)) (now (s .args .tree))) (s .pre .0) (s .pre .1 .0 .0) (s .pre .1 .0 .1) (s .pre .1 .1 .0) (s .pre .1 .1 .1) (s .pre .1 .1 .2) (c .before .before .before .before .before .before .before .before .before .before .before .before .before .before .before .before .before .before .before .before .before .before .before .before .before .seed .ensures) (c .before .before .before .before .before .before .before .before .before .before .before .before .before .before .before .before .before .before .before .before .before .plant .ensures _) _ (c .before .before .before .before .before .before .before .before .before .before .before .make-steps .ensures), s .fits)))
+    let at-make-steps = c .before .before .before .before .before .before .before .before .before .before .before in
+    let at-plant = at-make-steps .before .before .before .before .before .before .before .before .before .before in
+    let at-seed = at-plant .before .before .before .before in
+    let s = at-seed .before .before .before .before .before .before .before in (
+      s .pre .0,
+      (
+        made-sound _ _ _ (s .args .task)
+            (workOf (now (s .args .floats)) (now (s .args .words)) (now (s .args .tree))) (s .pre .0) (s .pre .1 .0 .0) (s .pre .1 .0 .1) (s .pre .1 .1 .0)
+            (s .pre .1 .1 .1) (s .pre .1 .1 .2) (at-seed .seed .ensures) (at-plant .plant .ensures _) _ (at-make-steps .make-steps .ensures),
+        omega (
+          arith,
+          made-uncounted _ _ _ (s .args .task)
+              (workOf (now (s .args .floats)) (now (s .args .words)) (now (s .args .tree))) (s .pre .0) (s .pre .1 .0 .0) (s .pre .1 .0 .1) (s .pre .1 .1 .0)
+              (s .pre .1 .1 .1) (s .pre .1 .1 .2) (at-seed .seed .ensures) (at-plant .plant .ensures _) _ (at-make-steps .make-steps .ensures),
+          s .fits,
+        ),
+      ),
+    )
 
 same-length-4 : tie.Need-same-length-4
-same-length-4 c = c .before .before .before .before .before .before .run .kept .1 .1 .1 .1 .1 .1 .0 ∙ c .before .before .before .before .before .before .before .before .before .before .before .before .before .before .before .before .before .before .make-steps .kept .1 .1 .1 .1 .1 .1 .0 ∙ c .before .before .before .before .before .before .before .before .before .before .before .before .before .before .before .before .before .before .before .before .before .before .before .before .before .before .before .before .plant .kept .1 .1 .0
+same-length-4 c =
+    let at-run = c .before .before .before .before .before .before in
+    let at-make-steps = at-run .before .before .before .before .before .before .before .before .before .before .before .before in
+    let at-plant = at-make-steps .before .before .before .before .before .before .before .before .before .before in
+    at-run .run .kept .1 .1 .1 .1 .1 .1 .0 ∙ at-make-steps .make-steps .kept .1 .1 .1 .1 .1 .1 .0 ∙ at-plant .plant .kept .1 .1 .0
 
 same-length-5 : tie.Need-same-length-5
-same-length-5 c = c .before .before .before .before .before .before .run .kept .1 .1 .1 .1 .1 .1 .1 .0 ∙ c .before .before .before .before .before .before .before .before .before .before .before .before .before .before .before .before .before .before .make-steps .kept .1 .1 .1 .1 .1 .1 .1 .0 ∙ c .before .before .before .before .before .before .before .before .before .before .before .before .before .before .before .before .before .before .before .before .before .before .before .before .before .before .before .before .plant .kept .1 .1 .1 .0
-
-same-length-6 : tie.Need-same-length-6
-same-length-6 c = search needs
+same-length-5 c =
+    let at-run = c .before .before .before .before .before .before in
+    let at-make-steps = at-run .before .before .before .before .before .before .before .before .before .before .before .before in
+    let at-plant = at-make-steps .before .before .before .before .before .before .before .before .before .before in
+    at-run .run .kept .1 .1 .1 .1 .1 .1 .1 .0 ∙ at-make-steps .make-steps .kept .1 .1 .1 .1 .1 .1 .1 .0 ∙ at-plant .plant .kept .1 .1 .1 .0
 
 returns-2 : tie.Need-returns-2
 returns-2 c =
-    let s = c .before .before .before .before .before .before .before .before .before .before .before .before .before .before .before .before .before .before .before .before .before .before .before .before .before .before .before .before .before .before .before .before .before .before .before .before .before .before in
-    searches-on (now (s .args .vertices)) (now (s .args .polygons)) (now (s .args .marks)) (s .args .task) (s .args .start) (s .args .p) (workOf (now (s .args .floats)) (now (s .args .words)) (now (s .args .tree))) (s .pre .0) (s .pre .1 .0 .0) (s .pre .1 .0 .1) (s .pre .1 .1 .0) (s .pre .1 .1 .1) (s .pre .1 .1 .2) (c .before .before .before .before .before .before .before .before .before .before .before .before .before .before .before .before .before .before .before .before .before .before .before .before .before .before .before .before .before .before .before .before .seed .ensures) (c .before .before .before .before .before .before .before .before .before .before .before .before .before .before .before .before .before .before .before .before .before .before .before .before .before .before .before .before .plant .ensures _) _ (c .before .before .before .before .before .before .before .before .before .before .before .before .before .before .before .before .before .before .make-steps .ensures) (s .args .budget) (c .before .before .before .before .before .before .before .before .before .before .if1 .left) (c .before .before .before .before .before .before .run .ensures)
+    let at-run = c .before .before .before .before .before .before in
+    let at-if1 = at-run .before .before .before .before in
+    let at-make-steps = at-if1 .before .before .before .before .before .before .before .before in
+    let at-plant = at-make-steps .before .before .before .before .before .before .before .before .before .before in
+    let at-seed = at-plant .before .before .before .before in
+    let s = at-seed .before .before .before .before .before .before .before in
+    searches-on _ _ _ (s .args .task)
+    (workOf (now (s .args .floats)) (now (s .args .words)) (now (s .args .tree))) (s .pre .0) (s .pre .1 .0 .0) (s .pre .1 .0 .1) (s .pre .1 .1 .0)
+    (s .pre .1 .1 .1) (s .pre .1 .1 .2) (at-seed .seed .ensures) (at-plant .plant .ensures _) _ (at-make-steps .make-steps .ensures) (s .args .budget)
+    (at-if1 .if1 .left) (at-run .run .ensures)
 
 pub search-from-spec : {M : Type 1} → statement M
 search-from-spec =
     tie.close
     (tie.spec
-    cast-seed
-    seed-requires
-    plant-requires
+    (λ c κs. search needs)
+    (λ c κs. search needs)
     make-steps-requires
-    same-length
-    same-length-2
-    same-length-3
+    (λ c. search needs)
+    (λ c. search needs)
+    (λ c. search needs)
     returns
     run-requires
     same-length-4
     same-length-5
-    same-length-6
+    (λ c. search needs)
     returns-2)

@@ -12,16 +12,11 @@ use Rattle.queue.proofs.Order.{better-lone}
 use Rattle.queue.proofs.better.Statement.{statement}
 use Rattle.queue.proofs.better.Tie as tie
 
-greater-requires : tie.Need-greater-requires
-greater-requires c κs = search needs
-
-lone-requires : tie.Need-lone-requires
-lone-requires c κs = search needs
-
 returns : tie.Need-returns
 returns c =
-    let s = c .before .before .before .before in
-    c .lone .ensures ∙ sym (better-lone _ _ (s .args .a) (s .args .b) (omega (arith, c .before .if1 .taken, c .before .before .greater .ensures)))
+    let at-greater = c .before .before in
+    let s = at-greater .before .before in
+    c .lone .ensures ∙ sym (better-lone _ _ (s .args .a) (s .args .b) (omega (arith, c .before .if1 .taken, at-greater .greater .ensures)))
 
 before-requires : tie.Need-before-requires
 before-requires c κs =
@@ -33,16 +28,32 @@ before-requires c κs =
 returns-2 : tie.Need-returns-2
 unfolding better
 returns-2 c =
-    let s = c .before .before .before .before .before in
-    let both : max (s .args .a) (s .args .b) < s .args .n = omega (arith, c .before .before .if1 .left, c .before .before .before .greater .ensures) in
-    rw (lt-leb (s .args .n) (s .args .a) (omega (arith, both)), lt-leb (s .args .n) (s .args .b) (omega (arith, both)), ← (c .before .before2 .ensures), c .if2 .taken)
+    let at-if1 = c .before .before in
+    let at-greater = at-if1 .before in
+    let s = at-greater .before .before in
+    let both : max (s .args .a) (s .args .b) < s .args .n = omega (arith, at-if1 .if1 .left, at-greater .greater .ensures) in
+    rw (
+      lt-leb (s .args .n) (s .args .a) (omega (arith, both)),
+      lt-leb (s .args .n) (s .args .b) (omega (arith, both)),
+      ←
+          (c .before .before2 .ensures),
+      c .if2 .taken,
+    )
 
 returns-3 : tie.Need-returns-3
 unfolding better
 returns-3 c =
-    let s = c .before .before .before .before .before in
-    let both : max (s .args .a) (s .args .b) < s .args .n = omega (arith, c .before .before .if1 .left, c .before .before .before .greater .ensures) in
-    rw (lt-leb (s .args .n) (s .args .a) (omega (arith, both)), lt-leb (s .args .n) (s .args .b) (omega (arith, both)), ← (c .before .before2 .ensures), c .if2 .left)
+    let at-if1 = c .before .before in
+    let at-greater = at-if1 .before in
+    let s = at-greater .before .before in
+    let both : max (s .args .a) (s .args .b) < s .args .n = omega (arith, at-if1 .if1 .left, at-greater .greater .ensures) in
+    rw (
+      lt-leb (s .args .n) (s .args .a) (omega (arith, both)),
+      lt-leb (s .args .n) (s .args .b) (omega (arith, both)),
+      ←
+          (c .before .before2 .ensures),
+      c .if2 .left,
+    )
 
 pub better-spec : {M : Type 1} → statement M
-better-spec = tie.close (tie.spec greater-requires lone-requires returns before-requires returns-2 returns-3)
+better-spec = tie.close (tie.spec (λ c κs. search needs) (λ c κs. search needs) returns before-requires returns-2 returns-3)

@@ -4,7 +4,8 @@ use native.Mathlib.Omega.{arith}
 use mathlib.Core.Path.{_≡_, refl, sym, ap, _∙_}
 use lib.ListN.{length}
 use denote.Ref.{now}
-use Rattle.queue.specs.Words.{column, climbed}
+use Rattle.queue.specs.Words.{column}
+use Rattle.queue.specs.Climb.{climbed}
 use Rattle.queue.proofs.Change.{repaired-length, climb-turn, climb-stop, climb-end}
 use Rattle.queue.proofs.climb.Statement.{statement}
 use Rattle.queue.proofs.climb.Tie as tie
@@ -21,21 +22,27 @@ loop-holds c = (c .before .before .pre .1 .1, refl, refl)
 
 repair-requires : tie.Need-repair-requires Inv-loop μ-loop
 repair-requires c κs =
-    (c .before .before .before .before .before .pre .0, (rw (c .before .before .loop .inv .1) (c .before .before .before .before .before .pre .1 .0), c .before .before .loop .inv .0))
+    let at-loop = c .before .before in
+    let start = at-loop .before .before .before in
+    (start .pre .0, (rw (at-loop .loop .inv .1) (start .pre .1 .0), at-loop .loop .inv .0))
 
 same-length : tie.Need-same-length Inv-loop μ-loop
 same-length c =
-    let l = c .before .before .before .before .before .before .loop in
-    let s = c .before .before .before .before .before .before .before .before .before in
+    let at-repair = c .before .before .before in
+    let at-loop = at-repair .before .before .before in
+    let s = at-loop .before .before .before in
+    let l = at-loop .loop in
     let f = column (now (s .args .fs)) (s .args .stride) (s .args .at) in
-    rw (c .before .before .before .repair .ensures .0) (repaired-length f (s .args .n) (l .k) (l .tree) ∙ l .inv .1)
+    rw (at-repair .repair .ensures .0) (repaired-length f (s .args .n) (l .k) (l .tree) ∙ l .inv .1)
 
 returns : tie.Need-returns Inv-loop μ-loop
 returns c =
-    let l = c .before .before .before .before .before .before .loop in
-    let s = c .before .before .before .before .before .before .before .before .before in
+    let at-repair = c .before .before .before in
+    let at-loop = at-repair .before .before .before in
+    let s = at-loop .before .before .before in
+    let l = at-loop .loop in
     let f = column (now (s .args .fs)) (s .args .stride) (s .args .at) in
-    let e = c .before .before .before .repair .ensures in
+    let e = at-repair .repair .ensures in
     rw (e .0) (sym (l .inv .2 ∙ climb-stop f (s .args .n) (l .k) (l .tree) (omega arith) (rw (e .1) at (c .if1 .taken))))
 
 loop-less : tie.Need-loop-less Inv-loop μ-loop
@@ -43,10 +50,12 @@ loop-less c = omega arith
 
 loop-again : tie.Need-loop-again Inv-loop μ-loop
 loop-again c =
-    let l = c .before .before .before .before .before .before .loop in
-    let s = c .before .before .before .before .before .before .before .before .before in
+    let at-repair = c .before .before .before in
+    let at-loop = at-repair .before .before .before in
+    let s = at-loop .before .before .before in
+    let l = at-loop .loop in
     let f = column (now (s .args .fs)) (s .args .stride) (s .args .at) in
-    let e = c .before .before .before .repair .ensures in (
+    let e = at-repair .repair .ensures in (
       omega arith,
       rw (e .0) (repaired-length f (s .args .n) (l .k) (l .tree) ∙ l .inv .1),
       rw (e .0) (l .inv .2 ∙ climb-turn f (s .args .n) (l .k) (l .tree) (omega arith) (rw (e .1) at (c .if1 .left))),

@@ -6,12 +6,9 @@ use mathlib.Core.Path.{refl}
 use Rattle.queue.proofs.least.Statement.{statement}
 use Rattle.queue.proofs.least.Tie as tie
 
-shared-slice-read-result : tie.Need-shared-slice-read-result
-shared-slice-read-result c = search needs
-
 returns : tie.Need-returns
 returns c =
     (refl, λ f n q z few o e. root-is-least f n q (now (c .before .args .tree)) e few o z)
 
 pub least-spec : {M : Type 1} → statement M
-least-spec = tie.close (tie.spec shared-slice-read-result returns)
+least-spec = tie.close (tie.spec (λ c. search needs) returns)

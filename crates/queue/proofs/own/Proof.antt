@@ -4,9 +4,6 @@ use borrow.Author.Needs.{needs}
 use Rattle.queue.proofs.own.Statement.{statement}
 use Rattle.queue.proofs.own.Tie as tie
 
-cast-result : tie.Need-cast-result
-cast-result c = search needs
-
 returns : tie.Need-returns
 unfolding ownOf
 returns c = rw (c .if1 .taken)
@@ -16,4 +13,4 @@ unfolding ownOf
 returns-2 c = rw (c .if1 .left)
 
 pub own-spec : {M : Type 1} → statement M
-own-spec = tie.close (tie.spec cast-result returns returns-2)
+own-spec = tie.close (tie.spec (λ c. search needs) returns returns-2)

@@ -13,7 +13,8 @@ records-from-requires c κs = tt
 returns : tie.Need-returns
 returns c =
     let s = c .before .before .before in
-    sym (none-behind (s .args .sought) (s .args .route .now) (s .args .number) (words-length (s .args .sought .words) (s .good .1 .1 .0 .1 .1 .0 .1 .0 .1)) (sym (c .before .records-from .ensures) ∙ c .if1 .taken))
+    sym (none-behind (s .args .sought) (s .args .route .now) (s .args .number) (words-length (s .args .sought .words) (s .good .1 .1 .0 .1 .1 .0 .1 .0 .1))
+    (sym (c .before .records-from .ensures) ∙ c .if1 .taken))
 
 is-at-requires : tie.Need-is-at-requires
 is-at-requires c κs =

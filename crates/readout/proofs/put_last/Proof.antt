@@ -7,84 +7,90 @@ use borrow.Author.Needs.{needs}
 use Rattle.readout.proofs.put_last.Statement.{statement}
 use Rattle.readout.proofs.put_last.Tie as tie
 
-cast-k : tie.Need-cast-k
-cast-k c = search needs
-
 put-point-requires : tie.Need-put-point-requires
 put-point-requires c κs =
     let s = c .before .before .before .before in
-    room-for-one (s .args .goal) (s .args .node) (now (s .args .points)) (s .args .goal) (last-of-seed (s .args .goal) (s .args .node) (c .before .if1 .taken)) (s .pre)
-
-same-length : tie.Need-same-length
-same-length c = search needs
+    room-for-one (s .args .goal) (s .args .node) (now (s .args .points)) (s .args .goal) (last-of-seed (s .args .goal) (s .args .node) (c .before .if1 .taken))
+    (s .pre)
 
 returns : tie.Need-returns
 returns c =
-    let s = c .before .before .before .before .before .before .before in
-    c .before .before .put-point .ensures ∙ rw (last-of-seed (s .args .goal) (s .args .node) (c .before .before .before .before .if1 .taken)) (put-one _ _ _)
-
-turning-point-requires : tie.Need-turning-point-requires
-turning-point-requires c κs = search needs
-
-enum-known-turn : tie.Need-enum-known-turn
-enum-known-turn c = search needs
+    let at-put-point = c .before .before in
+    let at-if1 = at-put-point .before .before in
+    let s = at-if1 .before .before .before in
+    at-put-point .put-point .ensures ∙ rw (last-of-seed (s .args .goal) (s .args .node) (at-if1 .if1 .taken)) (put-one _ _ _)
 
 put-point-requires-2 : tie.Need-put-point-requires-2
 put-point-requires-2 c κs =
-    let s = c .before .before .before .before .before .before .before .before .before .before in
-    let room = room-for-two (s .args .goal) (s .args .node) (now (s .args .points)) (c .before .before .turn .given .0 .0) (s .args .goal) (last-around (s .args .goal) (s .args .node) _ (c .before .before .turn .given .0 .0) (c .before .before .before .before .before .before .before .if1 .left) (c .before .before .before .before .turning-point .ensures) (c .before .before .turn .given .1)) (s .pre) in
+    let at-turn = c .before .before in
+    let at-turning-point = at-turn .before .before in
+    let at-if1 = at-turning-point .before .before .before in
+    let s = at-if1 .before .before .before in
+    let room = room-for-two (s .args .goal) (s .args .node) (now (s .args .points)) (at-turn .turn .given .0 .0) (s .args .goal)
+    (last-around (s .args .goal) (s .args .node) _ (at-turn .turn .given .0 .0) (at-if1 .if1 .left) (at-turning-point .turning-point .ensures)
+    (at-turn .turn .given .1)) (s .pre) in
     omega (arith, room)
-
-add-put-point : tie.Need-add-put-point
-add-put-point c = search needs
 
 put-point-requires-3 : tie.Need-put-point-requires-3
 put-point-requires-3 c κs =
-    let s = c .before .before .before .before .before .before .before .before .before .before .before .before .before .before in
-    let room = room-for-two (s .args .goal) (s .args .node) (now (s .args .points)) (c .before .before .before .before .before .before .turn .given .0 .0) (s .args .goal) (last-around (s .args .goal) (s .args .node) _ (c .before .before .before .before .before .before .turn .given .0 .0) (c .before .before .before .before .before .before .before .before .before .before .before .if1 .left) (c .before .before .before .before .before .before .before .before .turning-point .ensures) (c .before .before .before .before .before .before .turn .given .1)) (s .pre) in
-    let same = long-after (now (s .args .points)) (c .before .before .before .put-point2 .last .0) (s .args .node .points) _ (c .before .before .before .put-point2 .ensures) in
+    let at-put-point2 = c .before .before .before in
+    let at-turn = at-put-point2 .before .before .before in
+    let at-turning-point = at-turn .before .before in
+    let at-if1 = at-turning-point .before .before .before in
+    let s = at-if1 .before .before .before in
+    let room = room-for-two (s .args .goal) (s .args .node) (now (s .args .points)) (at-turn .turn .given .0 .0) (s .args .goal)
+    (last-around (s .args .goal) (s .args .node) _ (at-turn .turn .given .0 .0) (at-if1 .if1 .left) (at-turning-point .turning-point .ensures)
+    (at-turn .turn .given .1)) (s .pre) in
+    let same = long-after (now (s .args .points)) (at-put-point2 .put-point2 .last .0) (s .args .node .points) _ (at-put-point2 .put-point2 .ensures) in
     omega (arith, room, same)
-
-enum-told : tie.Need-enum-told
-enum-told c = search needs
 
 put-point-requires-4 : tie.Need-put-point-requires-4
 put-point-requires-4 c κs =
-    let s = c .before .before .before .before .before .before .before .before .before in
-    room-for-one (s .args .goal) (s .args .node) (now (s .args .points)) (s .args .goal) (last-straight (s .args .goal) (s .args .node) _ (c .before .before .before .before .before .before .if1 .left) (c .before .before .before .turning-point .ensures) (c .before .enum-told .given .1)) (s .pre)
-
-same-length-2 : tie.Need-same-length-2
-same-length-2 c = search needs
+    let at-turning-point = c .before .before .before in
+    let at-if1 = at-turning-point .before .before .before in
+    let s = at-if1 .before .before .before in
+    room-for-one (s .args .goal) (s .args .node) (now (s .args .points)) (s .args .goal)
+    (last-straight (s .args .goal) (s .args .node) _ (at-if1 .if1 .left) (at-turning-point .turning-point .ensures) (c .before .enum-told .given .1)) (s .pre)
 
 returns-2 : tie.Need-returns-2
 returns-2 c =
-    let s = c .before .before .before .before .before .before .before .before .before .before .before .before .before .before .before .before .before in
-    rw (last-around (s .args .goal) (s .args .node) _ (c .before .before .before .before .before .before .before .before .before .turn .given .0 .0) (c .before .before .before .before .before .before .before .before .before .before .before .before .before .before .if1 .left) (c .before .before .before .before .before .before .before .before .before .before .before .turning-point .ensures) (c .before .before .before .before .before .before .before .before .before .turn .given .1)) (two-after (now (s .args .points)) _ _ (s .args .node .points) _ _ (c .before .before .before .before .before .before .put-point2 .ensures) (c .before .before .put-point3 .ensures))
-
-same-length-3 : tie.Need-same-length-3
-same-length-3 c = search needs
+    let at-put-point3 = c .before .before in
+    let at-put-point2 = at-put-point3 .before .before .before .before in
+    let at-turn = at-put-point2 .before .before .before in
+    let at-turning-point = at-turn .before .before in
+    let at-if1 = at-turning-point .before .before .before in
+    let s = at-if1 .before .before .before in
+    rw (last-around (s .args .goal) (s .args .node) _ (at-turn .turn .given .0 .0) (at-if1 .if1 .left) (at-turning-point .turning-point .ensures)
+    (at-turn .turn .given .1))
+    (two-after (now (s .args .points)) _ _ (s .args .node .points) _ _ (at-put-point2 .put-point2 .ensures) (at-put-point3 .put-point3 .ensures))
 
 returns-3 : tie.Need-returns-3
 returns-3 c =
-    let s = c .before .before .before .before .before .before .before .before .before .before .before .before in
-    c .before .before .put-point4 .ensures ∙ rw (last-straight (s .args .goal) (s .args .node) _ (c .before .before .before .before .before .before .before .before .before .if1 .left) (c .before .before .before .before .before .before .turning-point .ensures) (c .before .before .before .before .enum-told .given .1)) (put-one _ _ _)
+    let at-put-point4 = c .before .before in
+    let at-enum-told = at-put-point4 .before .before in
+    let at-turning-point = at-enum-told .before .before in
+    let at-if1 = at-turning-point .before .before .before in
+    let s = at-if1 .before .before .before in
+    at-put-point4 .put-point4 .ensures ∙ rw
+    (last-straight (s .args .goal) (s .args .node) _ (at-if1 .if1 .left) (at-turning-point .turning-point .ensures) (at-enum-told .enum-told .given .1))
+    (put-one _ _ _)
 
 pub put-last-spec : {M : Type 1} → statement M
 put-last-spec =
     tie.close
     (tie.spec
-    cast-k
+    (λ c. search needs)
     put-point-requires
-    same-length
+    (λ c. search needs)
     returns
-    turning-point-requires
-    enum-known-turn
+    (λ c κs. search needs)
+    (λ c. search needs)
     put-point-requires-2
-    add-put-point
+    (λ c. search needs)
     put-point-requires-3
-    enum-told
+    (λ c. search needs)
     put-point-requires-4
-    same-length-2
+    (λ c. search needs)
     returns-2
-    same-length-3
+    (λ c. search needs)
     returns-3)

@@ -4,21 +4,6 @@ use Rattle.records.specs.Records.{pointIn}
 use Rattle.records.proofs.point_in.Statement.{statement}
 use Rattle.records.proofs.point_in.Tie as tie
 
-read-requires : tie.Need-read-requires
-read-requires c κs = search needs
-
-from-bits-requires : tie.Need-from-bits-requires
-from-bits-requires c κs = search needs
-
-add-read : tie.Need-add-read
-add-read c = search needs
-
-read-requires-2 : tie.Need-read-requires-2
-read-requires-2 c κs = search needs
-
-from-bits-requires-2 : tie.Need-from-bits-requires-2
-from-bits-requires-2 c κs = search needs
-
 returns : tie.Need-returns
 unfolding pointIn
 returns c =
@@ -30,4 +15,4 @@ returns c =
 pub point-in-spec : {M : Type 1} → statement M
 point-in-spec =
     tie.close
-    (tie.spec read-requires from-bits-requires add-read read-requires-2 from-bits-requires-2 returns)
+    (tie.spec (λ c κs. search needs) (λ c κs. search needs) (λ c. search needs) (λ c κs. search needs) (λ c κs. search needs) returns)

@@ -4,45 +4,6 @@ use Rattle.records.specs.Records.{stepIn}
 use Rattle.records.proofs.step_in.Statement.{statement}
 use Rattle.records.proofs.step_in.Tie as tie
 
-mul-at : tie.Need-mul-at
-mul-at c = search needs
-
-read-requires : tie.Need-read-requires
-read-requires c κs = search needs
-
-kind-in-requires : tie.Need-kind-in-requires
-kind-in-requires c κs = search needs
-
-add-read : tie.Need-add-read
-add-read c = search needs
-
-read-requires-2 : tie.Need-read-requires-2
-read-requires-2 c κs = search needs
-
-add-read-2 : tie.Need-add-read-2
-add-read-2 c = search needs
-
-read-requires-3 : tie.Need-read-requires-3
-read-requires-3 c κs = search needs
-
-add-read-3 : tie.Need-add-read-3
-add-read-3 c = search needs
-
-read-requires-4 : tie.Need-read-requires-4
-read-requires-4 c κs = search needs
-
-add-point-in : tie.Need-add-point-in
-add-point-in c = search needs
-
-point-in-requires : tie.Need-point-in-requires
-point-in-requires c κs = search needs
-
-add-point-in-2 : tie.Need-add-point-in-2
-add-point-in-2 c = search needs
-
-point-in-requires-2 : tie.Need-point-in-requires-2
-point-in-requires-2 c κs = search needs
-
 returns : tie.Need-returns
 unfolding stepIn
 returns c =
@@ -57,4 +18,6 @@ returns c =
 pub step-in-spec : {M : Type 1} → statement M
 step-in-spec =
     tie.close
-    (tie.spec mul-at read-requires kind-in-requires add-read read-requires-2 add-read-2 read-requires-3 add-read-3 read-requires-4 add-point-in point-in-requires add-point-in-2 point-in-requires-2 returns)
+    (tie.spec (λ c. search needs) (λ c κs. search needs) (λ c κs. search needs) (λ c. search needs) (λ c κs. search needs) (λ c. search needs)
+    (λ c κs. search needs) (λ c. search needs) (λ c κs. search needs) (λ c. search needs) (λ c κs. search needs) (λ c. search needs)
+    (λ c κs. search needs) returns)

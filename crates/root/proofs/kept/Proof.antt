@@ -6,17 +6,11 @@ use borrow.Author.Needs.{needs}
 use Rattle.root.proofs.kept.Statement.{statement}
 use Rattle.root.proofs.kept.Tie as tie
 
-mul-result : tie.Need-mul-result
-mul-result c = search needs
-
 returns : tie.Need-returns
 returns c =
     let j = c .before .args .places in
     let e : j - 2 * ((j - 23) / 2) ≡ 24 = omega arith in
     rw e
-
-mul-result-2 : tie.Need-mul-result-2
-mul-result-2 c = search needs
 
 returns-2 : tie.Need-returns-2
 returns-2 c =
@@ -25,4 +19,4 @@ returns-2 c =
     rw e
 
 pub kept-spec : {M : Type 1} → statement M
-kept-spec = tie.close (tie.spec mul-result returns mul-result-2 returns-2)
+kept-spec = tie.close (tie.spec (λ c. search needs) returns (λ c. search needs) returns-2)

@@ -26,7 +26,9 @@ mul-loop : tie.Need-mul-loop Inv-loop μ-loop
 mul-loop c = omega (arith, mul-le-mul (le-of-lt (c .loop .inv)) (le-of-lt (c .loop .inv)))
 
 sub-q : tie.Need-sub-q Inv-loop μ-loop
-sub-q c = some-left (c .before .loop .q) (c .before .before .args .n) (c .before .before .pre .0) (c .loop-test .taken)
+sub-q c =
+    let start = c .before .before in
+    some-left (c .before .loop .q) (start .args .n) (start .pre .0) (c .loop-test .taken)
 
 loop-less : tie.Need-loop-less Inv-loop μ-loop
 loop-less c = omega (arith, sub-q c)

@@ -13,9 +13,6 @@ square-below {g} h = let most : g ≤ 33554431 = omega (arith, h) in mul-le-mul 
 mul-square : tie.Need-mul-square
 mul-square c = omega (arith, square-below (c .pre .1))
 
-add-up : tie.Need-add-up
-add-up c = search needs
-
 sub-up : tie.Need-sub-up
 sub-up c = omega (arith, square-below (c .pre .1))
 
@@ -25,36 +22,21 @@ sub-up-2 c = omega (arith, square-below (c .pre .1))
 add-down : tie.Need-add-down
 add-down c = omega (arith, square-below (c .pre .1))
 
-sub-down : tie.Need-sub-down
-sub-down c = search needs
-
-sub-down-2 : tie.Need-sub-down-2
-sub-down-2 c = search needs
-
-add-result : tie.Need-add-result
-add-result c = search needs
-
-add-result-2 : tie.Need-add-result-2
-add-result-2 c = search needs
-
 sub-result : tie.Need-sub-result
 sub-result c = omega (arith, square-below (c .pre .1))
-
-returns : tie.Need-returns
-returns c = search needs
 
 pub nudged-spec : {M : Type 1} → statement M
 nudged-spec =
     tie.close
     (tie.spec
     mul-square
-    add-up
+    (λ c. search needs)
     sub-up
     sub-up-2
     add-down
-    sub-down
-    sub-down-2
-    add-result
-    add-result-2
+    (λ c. search needs)
+    (λ c. search needs)
+    (λ c. search needs)
+    (λ c. search needs)
     sub-result
-    returns)
+    (λ c. search needs))

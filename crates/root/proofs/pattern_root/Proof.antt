@@ -10,15 +10,6 @@ use Rattle.root.proofs.Patterns.{answer-is-root}
 use Rattle.root.proofs.pattern_root.Statement.{statement}
 use Rattle.root.proofs.pattern_root.Tie as tie
 
-scaled-requires : tie.Need-scaled-requires
-scaled-requires c κs = search needs
-
-kept-requires : tie.Need-kept-requires
-kept-requires c κs = search needs
-
-guess-requires : tie.Need-guess-requires
-guess-requires c κs = search needs
-
 nearest-requires : tie.Need-nearest-requires
 nearest-requires c κs =
     let s = c .before .before .scaled .ensures in
@@ -27,12 +18,6 @@ nearest-requires c κs =
 -- the answer is as near to the root of what is left as `nearest` says
 close : (c : tie.After-nearest) → Close (left (c .before .before .before .scaled .result .digits) (c .before .before .before .scaled .result .places)) (c .nearest .result)
 close c = rw (c .before .before .kept .ensures) at (c .nearest .ensures)
-
-sub-result : tie.Need-sub-result
-sub-result c = search needs
-
-mul-result : tie.Need-mul-result
-mul-result c = search needs
 
 add-result : tie.Need-add-result
 add-result c =
@@ -45,4 +30,4 @@ returns c = answer-is-root (c .before .before .before .scaled .ensures) (close c
 pub pattern-root-spec : {M : Type 1} → statement M
 pattern-root-spec =
     tie.close
-    (tie.spec scaled-requires kept-requires guess-requires nearest-requires sub-result mul-result add-result returns)
+    (tie.spec (λ c κs. search needs) (λ c κs. search needs) (λ c κs. search needs) nearest-requires (λ c. search needs) (λ c. search needs) add-result returns)

@@ -21,9 +21,6 @@ same c = ap (ofBits binary32) (c .to-bits .ensures) ∙ ofBits-toBits binary32 (
 short : (c : tie.After-to-bits) → c .to-bits .result < 2 ^ 32
 short c = rw (c .to-bits .ensures) (toBits-lt binary32 (c .before .args .x) (fitting c))
 
-to-bits-requires : tie.Need-to-bits-requires
-to-bits-requires c κs = search needs
-
 returns : tie.Need-returns
 returns c = rw (← same (c .before)) (sym (zero-pattern _ (short (c .before)) (c .if1 .taken)))
 
@@ -39,14 +36,12 @@ unsigned b h l = (omega arith, omega arith)
 
 returns-3 : tie.Need-returns-3
 returns-3 c =
-    let c3 = c .before .before .before in
-    rw (← same c3) (sym (top-pattern _ (unsigned _ (c .before .before .if1 .left) (c .before .if2 .left) .1) (c .if3 .taken)))
+    let at-if1 = c .before .before in
+    let c3 = at-if1 .before in
+    rw (← same c3) (sym (top-pattern _ (unsigned _ (at-if1 .if1 .left) (c .before .if2 .left) .1) (c .if3 .taken)))
 
 pattern-root-requires : tie.Need-pattern-root-requires
 pattern-root-requires c κs = (unsigned _ (c .before .before .if1 .left) (c .before .if2 .left) .0, c .if3 .left)
-
-from-bits-requires : tie.Need-from-bits-requires
-from-bits-requires c κs = search needs
 
 returns-4 : tie.Need-returns-4
 returns-4 c =
@@ -61,4 +56,4 @@ returns-4 c =
 pub root-spec : {M : Type 1} → statement M
 root-spec =
     tie.close
-    (tie.spec to-bits-requires returns returns-2 returns-3 pattern-root-requires from-bits-requires returns-4)
+    (tie.spec (λ c κs. search needs) returns returns-2 returns-3 pattern-root-requires (λ c κs. search needs) returns-4)

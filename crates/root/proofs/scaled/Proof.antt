@@ -20,14 +20,8 @@ sub-t7 c = omega (arith, leading-le 32 (c .before .args .bits % 8388608))
 returns : tie.Need-returns
 returns c = low-pattern-scale (c .before .args .bits) (c .before .pre .0) (c .if1 .taken)
 
-add-t8 : tie.Need-add-t8
-add-t8 c = search needs
-
-add-t9 : tie.Need-add-t9
-add-t9 c = search needs
-
 returns-2 : tie.Need-returns-2
 returns-2 c = high-pattern-scale (c .before .args .bits) (c .before .pre .1) (omega arith)
 
 pub scaled-spec : {M : Type 1} → statement M
-scaled-spec = tie.close (tie.spec sub-by shl-t6 sub-t7 returns add-t8 add-t9 returns-2)
+scaled-spec = tie.close (tie.spec sub-by shl-t6 sub-t7 returns (λ c. search needs) (λ c. search needs) returns-2)

@@ -5,9 +5,6 @@ use Rattle.routes.specs.Stored.{byteOf}
 use Rattle.routes.proofs.byte_of.Statement.{statement}
 use Rattle.routes.proofs.byte_of.Tie as tie
 
-shared-slice-read-result : tie.Need-shared-slice-read-result
-shared-slice-read-result c = search needs
-
 returns : tie.Need-returns
 unfolding byteOf
 returns c = rw (lt-ltb _ _ (c .before .if1 .taken))
@@ -17,4 +14,4 @@ unfolding byteOf
 returns-2 c = rw (le-ltb _ _ (c .if1 .left))
 
 pub byte-of-spec : {M : Type 1} → statement M
-byte-of-spec = tie.close (tie.spec shared-slice-read-result returns returns-2)
+byte-of-spec = tie.close (tie.spec (λ c. search needs) returns returns-2)

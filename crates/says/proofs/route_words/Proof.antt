@@ -13,36 +13,6 @@ other : (n : ℕ) → (n ≡ 20 → ⊥) → (n ≡ 21 → ⊥) → (n ≡ 22 �
 unfolding routeWordsOf
 other n h20 h21 h22 h23 = rw (ne-eqb n 20 h20, ne-eqb n 21 h21, ne-eqb n 22 h22, ne-eqb n 23 h23)
 
-slice-aggregate-copy : tie.Need-slice-aggregate-copy
-slice-aggregate-copy c = search needs
-
-copy-requires : tie.Need-copy-requires
-copy-requires c κs = search needs
-
-slice-aggregate-copy-2 : tie.Need-slice-aggregate-copy-2
-slice-aggregate-copy-2 c = search needs
-
-copy-requires-2 : tie.Need-copy-requires-2
-copy-requires-2 c κs = search needs
-
-slice-aggregate-copy-3 : tie.Need-slice-aggregate-copy-3
-slice-aggregate-copy-3 c = search needs
-
-copy-requires-3 : tie.Need-copy-requires-3
-copy-requires-3 c κs = search needs
-
-slice-aggregate-copy-4 : tie.Need-slice-aggregate-copy-4
-slice-aggregate-copy-4 c = search needs
-
-copy-requires-4 : tie.Need-copy-requires-4
-copy-requires-4 c κs = search needs
-
-slice-aggregate-copy-5 : tie.Need-slice-aggregate-copy-5
-slice-aggregate-copy-5 c = search needs
-
-copy-requires-5 : tie.Need-copy-requires-5
-copy-requires-5 c κs = search needs
-
 returns : tie.Need-returns
 unfolding routeWordsOf bytesOf laid
 returns c = rw (c .before .before .before .match .keys1) (c .copy .ensures .0, (c .copy .ensures .1, omega (arith, c .copy .ensures .0)))
@@ -70,16 +40,16 @@ pub route-words-spec : {M : Type 1} → statement M
 route-words-spec =
     tie.close
     (tie.spec
-    slice-aggregate-copy
-    copy-requires
-    slice-aggregate-copy-2
-    copy-requires-2
-    slice-aggregate-copy-3
-    copy-requires-3
-    slice-aggregate-copy-4
-    copy-requires-4
-    slice-aggregate-copy-5
-    copy-requires-5
+    (λ c. search needs)
+    (λ c κs. search needs)
+    (λ c. search needs)
+    (λ c κs. search needs)
+    (λ c. search needs)
+    (λ c κs. search needs)
+    (λ c. search needs)
+    (λ c κs. search needs)
+    (λ c. search needs)
+    (λ c κs. search needs)
     returns
     returns-2
     returns-3

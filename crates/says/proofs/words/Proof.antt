@@ -13,45 +13,6 @@ other : (n : ℕ) → (n ≡ 0 → ⊥) → (n ≡ 1 → ⊥) → (n ≡ 10 → 
 unfolding wordsOf
 other n h0 h1 h10 h11 h12 h13 = rw (ne-eqb n 0 h0, ne-eqb n 1 h1, ne-eqb n 10 h10, ne-eqb n 11 h11, ne-eqb n 12 h12, ne-eqb n 13 h13)
 
-slice-aggregate-copy : tie.Need-slice-aggregate-copy
-slice-aggregate-copy c = search needs
-
-copy-requires : tie.Need-copy-requires
-copy-requires c κs = search needs
-
-slice-aggregate-copy-2 : tie.Need-slice-aggregate-copy-2
-slice-aggregate-copy-2 c = search needs
-
-copy-requires-2 : tie.Need-copy-requires-2
-copy-requires-2 c κs = search needs
-
-slice-aggregate-copy-3 : tie.Need-slice-aggregate-copy-3
-slice-aggregate-copy-3 c = search needs
-
-copy-requires-3 : tie.Need-copy-requires-3
-copy-requires-3 c κs = search needs
-
-slice-aggregate-copy-4 : tie.Need-slice-aggregate-copy-4
-slice-aggregate-copy-4 c = search needs
-
-copy-requires-4 : tie.Need-copy-requires-4
-copy-requires-4 c κs = search needs
-
-slice-aggregate-copy-5 : tie.Need-slice-aggregate-copy-5
-slice-aggregate-copy-5 c = search needs
-
-copy-requires-5 : tie.Need-copy-requires-5
-copy-requires-5 c κs = search needs
-
-slice-aggregate-copy-6 : tie.Need-slice-aggregate-copy-6
-slice-aggregate-copy-6 c = search needs
-
-copy-requires-6 : tie.Need-copy-requires-6
-copy-requires-6 c κs = search needs
-
-floor-words-requires : tie.Need-floor-words-requires
-floor-words-requires c κs = search needs
-
 returns : tie.Need-returns
 unfolding wordsOf bytesOf laid
 returns c = rw (c .before .before .before .match .keys1) (c .copy .ensures .0, (c .copy .ensures .1, omega (arith, c .copy .ensures .0)))
@@ -85,19 +46,19 @@ pub words-spec : {M : Type 1} → statement M
 words-spec =
     tie.close
     (tie.spec
-    slice-aggregate-copy
-    copy-requires
-    slice-aggregate-copy-2
-    copy-requires-2
-    slice-aggregate-copy-3
-    copy-requires-3
-    slice-aggregate-copy-4
-    copy-requires-4
-    slice-aggregate-copy-5
-    copy-requires-5
-    slice-aggregate-copy-6
-    copy-requires-6
-    floor-words-requires
+    (λ c. search needs)
+    (λ c κs. search needs)
+    (λ c. search needs)
+    (λ c κs. search needs)
+    (λ c. search needs)
+    (λ c κs. search needs)
+    (λ c. search needs)
+    (λ c κs. search needs)
+    (λ c. search needs)
+    (λ c κs. search needs)
+    (λ c. search needs)
+    (λ c κs. search needs)
+    (λ c κs. search needs)
     returns
     returns-2
     returns-3

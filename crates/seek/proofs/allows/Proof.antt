@@ -5,21 +5,6 @@ use Rattle.seek.specs.Seek.{turnsAt}
 use Rattle.seek.proofs.allows.Statement.{statement}
 use Rattle.seek.proofs.allows.Tie as tie
 
-enum-told : tie.Need-enum-told
-enum-told c = search needs
-
-enum-told-2 : tie.Need-enum-told-2
-enum-told-2 c = search needs
-
-turns-at-requires : tie.Need-turns-at-requires
-turns-at-requires c κs = search needs
-
-enum-told-3 : tie.Need-enum-told-3
-enum-told-3 c = search needs
-
-turns-at-requires-2 : tie.Need-turns-at-requires-2
-turns-at-requires-2 c κs = search needs
-
 returns : tie.Need-returns
 unfolding isAllowed
 returns c = rw (c .enum-told .given .1)
@@ -36,11 +21,11 @@ pub allows-spec : {M : Type 1} → statement M
 allows-spec =
     tie.close
     (tie.spec
-    enum-told
-    enum-told-2
-    turns-at-requires
-    enum-told-3
-    turns-at-requires-2
+    (λ c. search needs)
+    (λ c. search needs)
+    (λ c κs. search needs)
+    (λ c. search needs)
+    (λ c κs. search needs)
     returns
     returns-2
     returns-3)

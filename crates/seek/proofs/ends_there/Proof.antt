@@ -4,30 +4,6 @@ use Rattle.seek.specs.Seek.{endsAt}
 use Rattle.seek.proofs.ends_there.Statement.{statement}
 use Rattle.seek.proofs.ends_there.Tie as tie
 
-mul-at : tie.Need-mul-at
-mul-at c = search needs
-
-enum-known-seen : tie.Need-enum-known-seen
-enum-known-seen c = search needs
-
-is-interval-requires : tie.Need-is-interval-requires
-is-interval-requires c κs = search needs
-
-add-is-point : tie.Need-add-is-point
-add-is-point c = search needs
-
-is-point-requires : tie.Need-is-point-requires
-is-point-requires c κs = search needs
-
-add-is-point-2 : tie.Need-add-is-point-2
-add-is-point-2 c = search needs
-
-is-point-requires-2 : tie.Need-is-point-requires-2
-is-point-requires-2 c κs = search needs
-
-enum-told : tie.Need-enum-told
-enum-told c = search needs
-
 returns : tie.Need-returns
 unfolding endsAt
 returns c =
@@ -61,4 +37,5 @@ returns-4 c = rw (c .enum-told .given .1)
 pub ends-there-spec : {M : Type 1} → statement M
 ends-there-spec =
     tie.close
-    (tie.spec mul-at enum-known-seen is-interval-requires add-is-point is-point-requires add-is-point-2 is-point-requires-2 enum-told returns returns-2 returns-3 returns-4)
+    (tie.spec (λ c. search needs) (λ c. search needs) (λ c κs. search needs) (λ c. search needs) (λ c κs. search needs) (λ c. search needs)
+    (λ c κs. search needs) (λ c. search needs) returns returns-2 returns-3 returns-4)

@@ -6,29 +6,11 @@ use Rattle.seek.specs.Seek.{overAt}
 use Rattle.seek.proofs.is_over.Statement.{statement}
 use Rattle.seek.proofs.is_over.Tie as tie
 
-cast-p : tie.Need-cast-p
-cast-p c = search needs
-
-neighbour-requires : tie.Need-neighbour-requires
-neighbour-requires c κs = search needs
-
 returns : tie.Need-returns
 unfolding overAt
 returns c =
     let c1 = c .before in
     rw (← c1 .neighbour .ensures, eq-eqb _ _ (c .if1 .taken))
-
-names-edge-requires : tie.Need-names-edge-requires
-names-edge-requires c κs = search needs
-
-allows-requires : tie.Need-allows-requires
-allows-requires c κs = search needs
-
-see-requires : tie.Need-see-requires
-see-requires c κs = search needs
-
-ends-there-requires : tie.Need-ends-there-requires
-ends-there-requires c κs = search needs
 
 returns-2 : tie.Need-returns-2
 unfolding overAt
@@ -40,7 +22,17 @@ returns-2 c =
     let c5 = c4 .before in
     let c7 = c5 .before .before in
     let c8 = c7 .before in
-    rw (← c8 .neighbour .ensures, ne-eqb _ _ (c7 .if1 .left), ← c5 .names-edge .ensures, c4 .if2 .taken, ← c3 .allows .ensures, c2 .if3 .taken, ← c1 .see .ensures, ← c .ends-there .ensures)
+    rw (
+      ← c8 .neighbour .ensures,
+      ne-eqb _ _
+          (c7 .if1 .left),
+      ← c5 .names-edge .ensures,
+      c4 .if2 .taken,
+      ← c3 .allows .ensures,
+      c2 .if3 .taken,
+      ← c1 .see .ensures,
+      ← c .ends-there .ensures,
+    )
 
 returns-3 : tie.Need-returns-3
 unfolding overAt
@@ -63,4 +55,5 @@ returns-4 c =
 pub is-over-spec : {M : Type 1} → statement M
 is-over-spec =
     tie.close
-    (tie.spec cast-p neighbour-requires returns names-edge-requires allows-requires see-requires ends-there-requires returns-2 returns-3 returns-4)
+    (tie.spec (λ c. search needs) (λ c κs. search needs) returns (λ c κs. search needs) (λ c κs. search needs) (λ c κs. search needs)
+    (λ c κs. search needs) returns-2 returns-3 returns-4)

@@ -6,21 +6,6 @@ use Rattle.seek.specs.Seek.{pointAt}
 use Rattle.seek.proofs.is_point.Statement.{statement}
 use Rattle.seek.proofs.is_point.Tie as tie
 
-read-requires : tie.Need-read-requires
-read-requires c κs = search needs
-
-to-bits-requires : tie.Need-to-bits-requires
-to-bits-requires c κs = search needs
-
-add-read : tie.Need-add-read
-add-read c = search needs
-
-read-requires-2 : tie.Need-read-requires-2
-read-requires-2 c κs = search needs
-
-to-bits-requires-2 : tie.Need-to-bits-requires-2
-to-bits-requires-2 c κs = search needs
-
 returns : tie.Need-returns
 unfolding pointAt
 returns c =
@@ -40,4 +25,4 @@ returns-2 c =
 pub is-point-spec : {M : Type 1} → statement M
 is-point-spec =
     tie.close
-    (tie.spec read-requires to-bits-requires add-read read-requires-2 to-bits-requires-2 returns returns-2)
+    (tie.spec (λ c κs. search needs) (λ c κs. search needs) (λ c. search needs) (λ c κs. search needs) (λ c κs. search needs) returns returns-2)

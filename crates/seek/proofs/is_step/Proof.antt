@@ -23,7 +23,8 @@ abbrev μ-loop : tie.MeasureT-loop
 returns : tie.Need-returns Inv-loop μ-loop
 returns c =
     let s = c .before .before .before .before .before in
-    sym (none-in-goal (floorOf (s .args .slots) (now (s .args .vertices)) (now (s .args .polygons))) (s .args .goal) (s .args .node) (now (s .args .route)) (s .args .i) (c .if1 .taken))
+    sym (none-in-goal (floorOf (s .args .slots) (now (s .args .vertices)) (now (s .args .polygons))) (s .args .goal) (s .args .node) (now (s .args .route))
+    (s .args .i) (c .if1 .taken))
 
 begin-requires : tie.Need-begin-requires Inv-loop μ-loop
 begin-requires c κs =
@@ -33,8 +34,12 @@ begin-requires c κs =
 loop-holds : tie.Need-loop-holds Inv-loop μ-loop
 loop-holds c =
     let s = c .before .before .before .before .before .before in (
-      subst (Goes (polygonAt (s .args .slots) (now (s .args .polygons)) (s .args .node .polygon)) (s .args .node)) (sym (c .begin .ensures)) (begin-goes (s .args .slots) (now (s .args .vertices)) (now (s .args .polygons)) (s .args .node) (s .pre .0)),
-      subst (Among-in (floorOf (s .args .slots) (now (s .args .vertices)) (now (s .args .polygons))) (s .args .goal) (s .args .node) (now (s .args .route)) (s .args .i)) (sym (c .begin .ensures)) (seeking-begins (s .args .slots) (now (s .args .vertices)) (now (s .args .polygons)) (s .args .node) (s .pre .0) (s .args .goal) (now (s .args .route)) (s .args .i) (c .before .if1 .left)),
+      subst (Goes (polygonAt (s .args .slots) (now (s .args .polygons)) (s .args .node .polygon)) (s .args .node)) (sym (c .begin .ensures))
+          (begin-goes (s .args .slots) (now (s .args .vertices)) (now (s .args .polygons)) (s .args .node) (s .pre .0)),
+      subst (Among-in (floorOf (s .args .slots) (now (s .args .vertices)) (now (s .args .polygons))) (s .args .goal) (s .args .node) (now (s .args .route))
+          (s .args .i)) (sym (c .begin .ensures))
+          (seeking-begins (s .args .slots) (now (s .args .vertices)) (now (s .args .polygons)) (s .args .node) (s .pre .0) (s .args .goal) (now (s .args .route))
+          (s .args .i) (c .before .if1 .left)),
     )
 
 is-over-requires : tie.Need-is-over-requires Inv-loop μ-loop
@@ -45,97 +50,174 @@ edge-requires c κs =
     let l = c .before .before in
     let s = l .before .before .before .before .before .before .before in
     let on = sym (c .before .is-over .ensures) ∙ not-true _ (c .if2 .taken) in
-    let turns = turning (s .args .slots) (now (s .args .vertices)) (now (s .args .polygons)) (s .args .node) (s .pre .0) (l .loop .round) (l .loop .inv .0) on in
+    let turns = turning (s .args .slots) (now (s .args .vertices)) (now (s .args .polygons)) (s .args .node) (s .pre .0) (l .loop .round)
+    (l .loop .inv .0) on in
     (turns .entry-in, turns .taken-in)
 
 walk-at-requires : tie.Need-walk-at-requires Inv-loop μ-loop
 walk-at-requires c κs =
-    let l = c .before .before .before in
+    let at-is-over = c .before .before in
+    let l = at-is-over .before in
     let s = l .before .before .before .before .before .before .before in
-    let on = sym (c .before .before .is-over .ensures) ∙ not-true _ (c .before .if2 .taken) in
-    (s .pre .0, subst (λ (n : ℕ). n < cornerCount (polygonAt (s .args .slots) (now (s .args .polygons)) (s .args .node .polygon))) (sym (c .edge .ensures)) (turning (s .args .slots) (now (s .args .vertices)) (now (s .args .polygons)) (s .args .node) (s .pre .0) (l .loop .round) (l .loop .inv .0) on .edge-in))
+    let on = sym (at-is-over .is-over .ensures) ∙ not-true _ (c .before .if2 .taken) in (
+      s .pre .0,
+      subst (λ (n : ℕ). n < cornerCount (polygonAt (s .args .slots) (now (s .args .polygons)) (s .args .node .polygon))) (sym (c .edge .ensures))
+          (turning (s .args .slots) (now (s .args .vertices)) (now (s .args .polygons)) (s .args .node) (s .pre .0) (l .loop .round) (l .loop .inv .0) on .edge-in),
+    )
 
 element-copy-out-one : tie.Need-element-copy-out-one Inv-loop μ-loop
 element-copy-out-one c = omega (arith, three-parts _ _ _ _ _ (c .walk-at .ensures))
 
 is-over-requires-2 : tie.Need-is-over-requires-2 Inv-loop μ-loop
 is-over-requires-2 c κs =
-    let l = c .before .before .before .before .before in
+    let at-edge = c .before .before in
+    let at-if2 = at-edge .before in
+    let at-is-over = at-if2 .before in
+    let l = at-is-over .before in
     let s = l .before .before .before .before .before .before .before in
-    let on = sym (c .before .before .before .before .is-over .ensures) ∙ not-true _ (c .before .before .before .if2 .taken) in (
-      (s .pre .0 .listed .few, subst (λ (n : ℕ). n < s .args .slots) (sym (c .before .before .edge .ensures)) (edge-inside (s .args .slots) (now (s .args .vertices)) (now (s .args .polygons)) (s .args .node) (s .pre .0) (l .loop .round) (l .loop .inv .0) on), s .pre .0 .listed .listed, s .pre .1 .2),
+    let on = sym (at-is-over .is-over .ensures) ∙ not-true _ (at-if2 .if2 .taken) in (
+      (
+        s .pre .0 .listed .few,
+        subst (λ (n : ℕ). n < s .args .slots) (sym (at-edge .edge .ensures))
+            (edge-inside (s .args .slots) (now (s .args .vertices)) (now (s .args .polygons)) (s .args .node) (s .pre .0) (l .loop .round)
+            (l .loop .inv .0) on),
+        s .pre .0 .listed .listed,
+        s .pre .1 .2,
+      ),
       (s .pre .0 .first-listed, s .pre .0 .second-listed, s .pre .1 .0, s .pre .1 .1),
     )
 
 returns-2 : tie.Need-returns-2 Inv-loop μ-loop
 returns-2 c =
-    let l = c .before .before .before .before .before .before .before in
+    let at-walk-at = c .before .before .before in
+    let at-edge = at-walk-at .before in
+    let at-if2 = at-edge .before in
+    let at-is-over = at-if2 .before in
+    let l = at-is-over .before in
     let s = l .before .before .before .before .before .before .before in
-    let on = sym (c .before .before .before .before .before .before .is-over .ensures) ∙ not-true _ (c .before .before .before .before .before .if2 .taken) in
-    sym (first-is-it (s .args .slots) (now (s .args .vertices)) (now (s .args .polygons)) (s .args .node) (s .pre .0) (s .args .goal) (now (s .args .route)) (s .args .i) (l .loop .round) (l .loop .inv .0) on (l .loop .inv .1) _ _ (c .before .before .before .before .edge .ensures) (c .before .before .before .walk-at .ensures) (sym (c .before .is-over2 .ensures) ∙ c .if3 .taken))
+    let on = sym (at-is-over .is-over .ensures) ∙ not-true _ (at-if2 .if2 .taken) in
+    sym (first-is-it (s .args .slots) (now (s .args .vertices)) (now (s .args .polygons)) (s .args .node) (s .pre .0) (s .args .goal) (now (s .args .route))
+    (s .args .i) (l .loop .round) (l .loop .inv .0) on (l .loop .inv .1) _ _ (at-edge .edge .ensures) (at-walk-at .walk-at .ensures)
+    (sym (c .before .is-over2 .ensures) ∙ c .if3 .taken))
 
 element-copy-out-two : tie.Need-element-copy-out-two Inv-loop μ-loop
 element-copy-out-two c = omega (arith, three-parts _ _ _ _ _ (c .before .before .before .walk-at .ensures))
 
 is-over-requires-3 : tie.Need-is-over-requires-3 Inv-loop μ-loop
 is-over-requires-3 c κs =
-    let l = c .before .before .before .before .before .before .before .before in
+    let at-edge = c .before .before .before .before .before in
+    let at-if2 = at-edge .before in
+    let at-is-over = at-if2 .before in
+    let l = at-is-over .before in
     let s = l .before .before .before .before .before .before .before in
-    let on = sym (c .before .before .before .before .before .before .before .is-over .ensures) ∙ not-true _ (c .before .before .before .before .before .before .if2 .taken) in (
-      (s .pre .0 .listed .few, subst (λ (n : ℕ). n < s .args .slots) (sym (c .before .before .before .before .before .edge .ensures)) (edge-inside (s .args .slots) (now (s .args .vertices)) (now (s .args .polygons)) (s .args .node) (s .pre .0) (l .loop .round) (l .loop .inv .0) on), s .pre .0 .listed .listed, s .pre .1 .2),
+    let on = sym (at-is-over .is-over .ensures) ∙ not-true _ (at-if2 .if2 .taken) in (
+      (
+        s .pre .0 .listed .few,
+        subst (λ (n : ℕ). n < s .args .slots) (sym (at-edge .edge .ensures))
+            (edge-inside (s .args .slots) (now (s .args .vertices)) (now (s .args .polygons)) (s .args .node) (s .pre .0) (l .loop .round)
+            (l .loop .inv .0) on),
+        s .pre .0 .listed .listed,
+        s .pre .1 .2,
+      ),
       (s .pre .0 .first-listed, s .pre .0 .second-listed, s .pre .1 .0, s .pre .1 .1),
     )
 
 returns-3 : tie.Need-returns-3 Inv-loop μ-loop
 returns-3 c =
-    let l = c .before .before .before .before .before .before .before .before .before .before in
+    let at-if3 = c .before .before .before in
+    let at-is-over2 = at-if3 .before in
+    let at-walk-at = at-is-over2 .before .before in
+    let at-edge = at-walk-at .before in
+    let at-if2 = at-edge .before in
+    let at-is-over = at-if2 .before in
+    let l = at-is-over .before in
     let s = l .before .before .before .before .before .before .before in
-    let on = sym (c .before .before .before .before .before .before .before .before .before .is-over .ensures) ∙ not-true _ (c .before .before .before .before .before .before .before .before .if2 .taken) in
-    sym (second-is-it (s .args .slots) (now (s .args .vertices)) (now (s .args .polygons)) (s .args .node) (s .pre .0) (s .args .goal) (now (s .args .route)) (s .args .i) (l .loop .round) (l .loop .inv .0) on (l .loop .inv .1) _ _ (c .before .before .before .before .before .before .before .edge .ensures) (c .before .before .before .before .before .before .walk-at .ensures) (sym (c .before .before .before .before .is-over2 .ensures) ∙ c .before .before .before .if3 .left) (sym (c .before .is-over3 .ensures) ∙ c .if4 .taken))
+    let on = sym (at-is-over .is-over .ensures) ∙ not-true _ (at-if2 .if2 .taken) in
+    sym (second-is-it (s .args .slots) (now (s .args .vertices)) (now (s .args .polygons)) (s .args .node) (s .pre .0) (s .args .goal) (now (s .args .route))
+    (s .args .i) (l .loop .round) (l .loop .inv .0) on (l .loop .inv .1) _ _ (at-edge .edge .ensures) (at-walk-at .walk-at .ensures)
+    (sym (at-is-over2 .is-over2 .ensures) ∙ at-if3 .if3 .left) (sym (c .before .is-over3 .ensures) ∙ c .if4 .taken))
 
 element-copy-out-end : tie.Need-element-copy-out-end Inv-loop μ-loop
 element-copy-out-end c = omega (arith, three-parts _ _ _ _ _ (c .before .before .before .before .before .before .walk-at .ensures))
 
 is-over-requires-4 : tie.Need-is-over-requires-4 Inv-loop μ-loop
 is-over-requires-4 c κs =
-    let l = c .before .before .before .before .before .before .before .before .before .before .before in
+    let at-edge = c .before .before .before .before .before .before .before .before in
+    let at-if2 = at-edge .before in
+    let at-is-over = at-if2 .before in
+    let l = at-is-over .before in
     let s = l .before .before .before .before .before .before .before in
-    let on = sym (c .before .before .before .before .before .before .before .before .before .before .is-over .ensures) ∙ not-true _ (c .before .before .before .before .before .before .before .before .before .if2 .taken) in (
-      (s .pre .0 .listed .few, subst (λ (n : ℕ). n < s .args .slots) (sym (c .before .before .before .before .before .before .before .before .edge .ensures)) (edge-inside (s .args .slots) (now (s .args .vertices)) (now (s .args .polygons)) (s .args .node) (s .pre .0) (l .loop .round) (l .loop .inv .0) on), s .pre .0 .listed .listed, s .pre .1 .2),
+    let on = sym (at-is-over .is-over .ensures) ∙ not-true _ (at-if2 .if2 .taken) in (
+      (
+        s .pre .0 .listed .few,
+        subst (λ (n : ℕ). n < s .args .slots) (sym (at-edge .edge .ensures))
+            (edge-inside (s .args .slots) (now (s .args .vertices)) (now (s .args .polygons)) (s .args .node) (s .pre .0) (l .loop .round)
+            (l .loop .inv .0) on),
+        s .pre .0 .listed .listed,
+        s .pre .1 .2,
+      ),
       (s .pre .0 .first-listed, s .pre .0 .second-listed, s .pre .1 .0, s .pre .1 .1),
     )
 
 returns-4 : tie.Need-returns-4 Inv-loop μ-loop
 returns-4 c =
-    let l = c .before .before .before .before .before .before .before .before .before .before .before .before .before in
+    let at-if4 = c .before .before .before in
+    let at-is-over3 = at-if4 .before in
+    let at-if3 = at-is-over3 .before .before in
+    let at-is-over2 = at-if3 .before in
+    let at-walk-at = at-is-over2 .before .before in
+    let at-edge = at-walk-at .before in
+    let at-if2 = at-edge .before in
+    let at-is-over = at-if2 .before in
+    let l = at-is-over .before in
     let s = l .before .before .before .before .before .before .before in
-    let on = sym (c .before .before .before .before .before .before .before .before .before .before .before .before .is-over .ensures) ∙ not-true _ (c .before .before .before .before .before .before .before .before .before .before .before .if2 .taken) in
-    sym (third-is-it (s .args .slots) (now (s .args .vertices)) (now (s .args .polygons)) (s .args .node) (s .pre .0) (s .args .goal) (now (s .args .route)) (s .args .i) (l .loop .round) (l .loop .inv .0) on (l .loop .inv .1) _ _ (c .before .before .before .before .before .before .before .before .before .before .edge .ensures) (c .before .before .before .before .before .before .before .before .before .walk-at .ensures) (sym (c .before .before .before .before .before .before .before .is-over2 .ensures) ∙ c .before .before .before .before .before .before .if3 .left) (sym (c .before .before .before .before .is-over3 .ensures) ∙ c .before .before .before .if4 .left) (sym (c .before .is-over4 .ensures) ∙ c .if5 .taken))
+    let on = sym (at-is-over .is-over .ensures) ∙ not-true _ (at-if2 .if2 .taken) in
+    sym (third-is-it (s .args .slots) (now (s .args .vertices)) (now (s .args .polygons)) (s .args .node) (s .pre .0) (s .args .goal) (now (s .args .route))
+    (s .args .i) (l .loop .round) (l .loop .inv .0) on (l .loop .inv .1) _ _ (at-edge .edge .ensures) (at-walk-at .walk-at .ensures)
+    (sym (at-is-over2 .is-over2 .ensures) ∙ at-if3 .if3 .left) (sym (at-is-over3 .is-over3 .ensures) ∙ at-if4 .if4 .left)
+    (sym (c .before .is-over4 .ensures) ∙ c .if5 .taken))
 
 next-requires : tie.Need-next-requires Inv-loop μ-loop
 next-requires c κs = c .before .before .before .before .before .before .before .before .before .before .before .before .before .loop .inv .0 .taken-in
 
 loop-less : tie.Need-loop-less Inv-loop μ-loop
 loop-less c =
-    let l = c .before .before .before .before .before .before .before .before .before .before .before .before .before .before in
+    let at-if2 = c .before .before .before .before .before .before .before .before .before .before .before .before in
+    let at-is-over = at-if2 .before in
+    let l = at-is-over .before in
     let s = l .before .before .before .before .before .before .before in
-    let on = sym (c .before .before .before .before .before .before .before .before .before .before .before .before .before .is-over .ensures) ∙ not-true _ (c .before .before .before .before .before .before .before .before .before .before .before .before .if2 .taken) in
-    subst (λ (r : Round). edgesLeft r < edgesLeft (l .loop .round)) (sym (c .next .ensures)) (fewer-left (s .args .slots) (now (s .args .vertices)) (now (s .args .polygons)) (s .args .node) (s .pre .0) (l .loop .round) (l .loop .inv .0) on _)
+    let on = sym (at-is-over .is-over .ensures) ∙ not-true _ (at-if2 .if2 .taken) in
+    subst (λ (r : Round). edgesLeft r < edgesLeft (l .loop .round)) (sym (c .next .ensures))
+    (fewer-left (s .args .slots) (now (s .args .vertices)) (now (s .args .polygons)) (s .args .node) (s .pre .0) (l .loop .round) (l .loop .inv .0) on _)
 
 loop-again : tie.Need-loop-again Inv-loop μ-loop
 loop-again c =
-    let l = c .before .before .before .before .before .before .before .before .before .before .before .before .before .before in
+    let at-is-over4 = c .before .before in
+    let at-if4 = at-is-over4 .before .before in
+    let at-is-over3 = at-if4 .before in
+    let at-if3 = at-is-over3 .before .before in
+    let at-is-over2 = at-if3 .before in
+    let at-walk-at = at-is-over2 .before .before in
+    let at-edge = at-walk-at .before in
+    let at-if2 = at-edge .before in
+    let at-is-over = at-if2 .before in
+    let l = at-is-over .before in
     let s = l .before .before .before .before .before .before .before in
-    let on = sym (c .before .before .before .before .before .before .before .before .before .before .before .before .before .is-over .ensures) ∙ not-true _ (c .before .before .before .before .before .before .before .before .before .before .before .before .if2 .taken) in (
-      subst (Goes (polygonAt (s .args .slots) (now (s .args .polygons)) (s .args .node .polygon)) (s .args .node)) (sym (c .next .ensures)) (next-goes (s .args .slots) (now (s .args .vertices)) (now (s .args .polygons)) (s .args .node) (s .pre .0) (l .loop .round) (l .loop .inv .0) on _),
-      seeking-goes-on (s .args .slots) (now (s .args .vertices)) (now (s .args .polygons)) (s .args .node) (s .pre .0) (s .args .goal) (now (s .args .route)) (s .args .i) (l .loop .round) (l .loop .inv .0) on (l .loop .inv .1) _ _ (c .before .before .before .before .before .before .before .before .before .before .before .edge .ensures) (c .before .before .before .before .before .before .before .before .before .before .walk-at .ensures) (sym (c .before .before .before .before .before .before .before .before .is-over2 .ensures) ∙ c .before .before .before .before .before .before .before .if3 .left) (sym (c .before .before .before .before .before .is-over3 .ensures) ∙ c .before .before .before .before .if4 .left) (sym (c .before .before .is-over4 .ensures) ∙ c .before .if5 .left) _ (c .next .ensures),
+    let on = sym (at-is-over .is-over .ensures) ∙ not-true _ (at-if2 .if2 .taken) in (
+      subst (Goes (polygonAt (s .args .slots) (now (s .args .polygons)) (s .args .node .polygon)) (s .args .node)) (sym (c .next .ensures))
+          (next-goes (s .args .slots) (now (s .args .vertices)) (now (s .args .polygons)) (s .args .node) (s .pre .0) (l .loop .round) (l .loop .inv .0) on _),
+      seeking-goes-on (s .args .slots) (now (s .args .vertices)) (now (s .args .polygons)) (s .args .node) (s .pre .0) (s .args .goal) (now (s .args .route))
+          (s .args .i) (l .loop .round) (l .loop .inv .0) on (l .loop .inv .1) _ _ (at-edge .edge .ensures) (at-walk-at .walk-at .ensures)
+          (sym (at-is-over2 .is-over2 .ensures) ∙ at-if3 .if3 .left) (sym (at-is-over3 .is-over3 .ensures) ∙ at-if4 .if4 .left)
+          (sym (at-is-over4 .is-over4 .ensures) ∙ c .before .if5 .left) _ (c .next .ensures),
     )
 
 returns-5 : tie.Need-returns-5 Inv-loop μ-loop
 returns-5 c =
     let l = c .before .before in
     let s = l .before .before .before .before .before .before .before in
-    sym (seeking-ends (s .args .slots) (now (s .args .vertices)) (now (s .args .polygons)) (s .args .node) (s .pre .0) (s .args .goal) (now (s .args .route)) (s .args .i) (l .loop .round) (sym (c .before .is-over .ensures) ∙ not-false _ (c .if2 .left)) (l .loop .inv .1))
+    sym (seeking-ends (s .args .slots) (now (s .args .vertices)) (now (s .args .polygons)) (s .args .node) (s .pre .0) (s .args .goal) (now (s .args .route))
+    (s .args .i) (l .loop .round) (sym (c .before .is-over .ensures) ∙ not-false _ (c .if2 .left)) (l .loop .inv .1))
 
 pub is-step-spec : {M : Type 1} → statement M
 is-step-spec =

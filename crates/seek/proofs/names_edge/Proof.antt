@@ -6,42 +6,6 @@ use Rattle.seek.specs.Seek.{namesAt}
 use Rattle.seek.proofs.names_edge.Statement.{statement}
 use Rattle.seek.proofs.names_edge.Tie as tie
 
-mul-at : tie.Need-mul-at
-mul-at c = search needs
-
-add-read : tie.Need-add-read
-add-read c = search needs
-
-read-requires : tie.Need-read-requires
-read-requires c κs = search needs
-
-corner-requires : tie.Need-corner-requires
-corner-requires c κs = search needs
-
-read-requires-2 : tie.Need-read-requires-2
-read-requires-2 c κs = search needs
-
-kind-number-requires : tie.Need-kind-number-requires
-kind-number-requires c κs = search needs
-
-add-read-2 : tie.Need-add-read-2
-add-read-2 c = search needs
-
-read-requires-3 : tie.Need-read-requires-3
-read-requires-3 c κs = search needs
-
-corner-after-requires : tie.Need-corner-after-requires
-corner-after-requires c κs = search needs
-
-add-read-3 : tie.Need-add-read-3
-add-read-3 c = search needs
-
-read-requires-4 : tie.Need-read-requires-4
-read-requires-4 c κs = search needs
-
-neighbour-requires : tie.Need-neighbour-requires
-neighbour-requires c κs = search needs
-
 returns : tie.Need-returns
 unfolding namesAt
 returns c =
@@ -55,7 +19,20 @@ returns c =
     let c8 = c7 .before in
     let c9 = c8 .before in
     let c10 = c9 .before in
-    rw (← c10 .read .ensures, ← c9 .corner .ensures, eq-eqb _ _ (c8 .if1 .taken), ← c7 .read2 .ensures, ← c6 .kind-number .ensures, eq-eqb _ _ (c5 .if2 .taken), ← c4 .read3 .ensures, ← c3 .corner-after .ensures, eq-eqb _ _ (c2 .if3 .taken), ← c1 .read4 .ensures, ← c .neighbour .ensures)
+    rw (
+      ← c10 .read .ensures,
+      ← c9 .corner .ensures,
+      eq-eqb _ _ (c8 .if1 .taken),
+      ← c7 .read2 .ensures,
+      ← c6 .kind-number .ensures,
+      eq-eqb _ _
+          (c5 .if2 .taken),
+      ← c4 .read3 .ensures,
+      ← c3 .corner-after .ensures,
+      eq-eqb _ _ (c2 .if3 .taken),
+      ← c1 .read4 .ensures,
+      ← c .neighbour .ensures,
+    )
 
 returns-2 : tie.Need-returns-2
 unfolding namesAt
@@ -68,7 +45,18 @@ returns-2 c =
     let c6 = c5 .before in
     let c7 = c6 .before in
     let c8 = c7 .before in
-    rw (← c8 .read .ensures, ← c7 .corner .ensures, eq-eqb _ _ (c6 .if1 .taken), ← c5 .read2 .ensures, ← c4 .kind-number .ensures, eq-eqb _ _ (c3 .if2 .taken), ← c2 .read3 .ensures, ← c1 .corner-after .ensures, ne-eqb _ _ (c .if3 .left))
+    rw (
+      ← c8 .read .ensures,
+      ← c7 .corner .ensures,
+      eq-eqb _ _ (c6 .if1 .taken),
+      ← c5 .read2 .ensures,
+      ← c4 .kind-number .ensures,
+      eq-eqb _ _
+          (c3 .if2 .taken),
+      ← c2 .read3 .ensures,
+      ← c1 .corner-after .ensures,
+      ne-eqb _ _ (c .if3 .left),
+    )
 
 returns-3 : tie.Need-returns-3
 unfolding namesAt
@@ -90,4 +78,6 @@ returns-4 c =
 pub names-edge-spec : {M : Type 1} → statement M
 names-edge-spec =
     tie.close
-    (tie.spec mul-at add-read read-requires corner-requires read-requires-2 kind-number-requires add-read-2 read-requires-3 corner-after-requires add-read-3 read-requires-4 neighbour-requires returns returns-2 returns-3 returns-4)
+    (tie.spec (λ c. search needs) (λ c. search needs) (λ c κs. search needs) (λ c κs. search needs) (λ c κs. search needs) (λ c κs. search needs)
+    (λ c. search needs) (λ c κs. search needs) (λ c κs. search needs) (λ c. search needs) (λ c κs. search needs)
+    (λ c κs. search needs) returns returns-2 returns-3 returns-4)

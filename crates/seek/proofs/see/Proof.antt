@@ -9,19 +9,12 @@ returns : tie.Need-returns
 unfolding clipped
 returns c = rw (c .if1 .taken)
 
-root-after-requires : tie.Need-root-after-requires
-root-after-requires c κs = search needs
-
-same-requires : tie.Need-same-requires
-same-requires c κs = search needs
-
-clip-to-cone-requires : tie.Need-clip-to-cone-requires
-clip-to-cone-requires c κs = search needs
-
 returns-2 : tie.Need-returns-2
 returns-2 c =
-    let r = c .before .before .before .before in
-    sees-clipped _ _ _ _ (r .before .before .if1 .left) (r .root-after .ensures) (c .before .before .before .same .ensures) (c .before .before .if2 .taken) (c .clip-to-cone .ensures)
+    let at-if2 = c .before .before in
+    let at-same = at-if2 .before in
+    let r = at-same .before in
+    sees-clipped _ _ _ _ (r .before .before .if1 .left) (r .root-after .ensures) (at-same .same .ensures) (at-if2 .if2 .taken) (c .clip-to-cone .ensures)
 
 returns-3 : tie.Need-returns-3
 returns-3 c =
@@ -31,4 +24,4 @@ returns-3 c =
 pub see-spec : {M : Type 1} → statement M
 see-spec =
     tie.close
-    (tie.spec returns root-after-requires same-requires clip-to-cone-requires returns-2 returns-3)
+    (tie.spec returns (λ c κs. search needs) (λ c κs. search needs) (λ c κs. search needs) returns-2 returns-3)

@@ -1,41 +1,36 @@
--- `steps_c::ask` meets its contract: an accepted floor has no more than 1,024 vertices. Assumes nothing.
-use mathlib.Core.Path.{refl, sym, _∙_}
+-- `steps_c::ask` meets its contract: a floor that is accepted is the ground of its plan. Assumes nothing.
+use mathlib.Core.Path.{refl, sym, ap, _∙_}
+use native.Mathlib.Omega.{arith}
+use denote.Ref.{now}
 use borrow.Author.Needs.{needs}
-use Rattle.floor.specs.declared.FloorLook.the-variants.{Accepted}
-use Rattle.floor.proofs.Exact.{floor-exactly}
-use Rattle.steps_c.specs.Ask.{answerOf}
+use Rattle.stored.specs.Stored.{floorOf}
+use Rattle.floor.proofs.Planned.{grounded, slots-are}
+use Rattle.steps_c.specs.Ask.{answerOn, answerOf}
 use Rattle.steps_c.proofs.ask.Statement.{statement}
 use Rattle.steps_c.proofs.ask.Tie as tie
 
-look-at-floor-requires : tie.Need-look-at-floor-requires
-look-at-floor-requires c κs = search needs
-
-enum-told : tie.Need-enum-told
-enum-told c = search needs
-
 answer-on-requires : tie.Need-answer-on-requires
 answer-on-requires c κs =
-    let right = floor-exactly 8 _ _ Accepted .0 (sym (c .before .before .look-at-floor .ensures) ∙ c .enum-told .given .1) in
-    (right .1, right .0 .vertices-whole .few)
-
-enum-known-refusal : tie.Need-enum-known-refusal
-enum-known-refusal c = search needs
+    let at-look = c .before .before .before in
+    let right = sym (at-look .look-at-floor .ensures .0) ∙ c .before .enum-told .given .1 in
+    grounded 8 _ _ (omega arith) (omega arith) right _ (at-look .look-at-floor .ensures .1)
 
 returns : tie.Need-returns
 unfolding answerOf
 returns c =
-    let c1 = c .before in
-    let c3 = c1 .before .before in
-    rw (← c3 .look-at-floor .ensures, c1 .enum-told .given .1) (c .answer-on .ensures)
+    let at-look = c .before .before .before .before in
+    let s = at-look .before .before .before .before in
+    let right = sym (at-look .look-at-floor .ensures .0) ∙ c .before .before .enum-told .given .1 in
+    let slots = slots-are 8 _ _ (omega arith) (omega arith) right _ (at-look .look-at-floor .ensures .1) in
+    let vs = now (s .args .vertices) in
+    let ps = now (s .args .polygons) in
+    rw (right) (c .answer-on .ensures ∙ ap (λ k. answerOn (floorOf k vs ps) (s .args .goal) (s .args .node) (s .args .k)) slots)
 
 returns-2 : tie.Need-returns-2
 unfolding answerOf
 returns-2 c =
-    let c1 = c .before in
-    let c3 = c1 .before .before in
-    rw (← c3 .look-at-floor .ensures, c1 .refusal .given .1) refl
+    let at-look = c .before .before .before in
+    rw (sym (at-look .look-at-floor .ensures .0) ∙ c .before .refusal .given .1) refl
 
 pub ask-spec : {M : Type 1} → statement M
-ask-spec =
-    tie.close
-    (tie.spec look-at-floor-requires enum-told answer-on-requires enum-known-refusal returns returns-2)
+ask-spec = tie.close (tie.spec (λ c κs. search needs) (λ c. search needs) answer-on-requires (λ c. search needs) returns returns-2)

@@ -1,35 +1,12 @@
 -- `steps_c::steps_step` meets its contract: each answer's number and words. Assumes nothing.
-use mathlib.Core.Path.{refl, ap}
+use mathlib.Core.Path.{refl, ap, _∙_}
 use borrow.Author.Needs.{needs}
+use Rattle.told.specs.Told.{numberOf}
 use Rattle.records.specs.declared.Record.{Record}
 use Rattle.records.specs.Records.{stepRecord}
 use Rattle.steps_c.specs.Ask.{answerNumber, answerWritten}
 use Rattle.steps_c.proofs.steps_step.Statement.{statement}
 use Rattle.steps_c.proofs.steps_step.Tie as tie
-
-node-of-requires : tie.Need-node-of-requires
-node-of-requires c κs = search needs
-
-ask-requires : tie.Need-ask-requires
-ask-requires c κs = search needs
-
-enum-known-answer : tie.Need-enum-known-answer
-enum-known-answer c = search needs
-
-step-requires : tie.Need-step-requires
-step-requires c κs = search needs
-
-enum-told : tie.Need-enum-told
-enum-told c = search needs
-
-enum-told-2 : tie.Need-enum-told-2
-enum-told-2 c = search needs
-
-enum-known-answer-2 : tie.Need-enum-known-answer-2
-enum-known-answer-2 c = search needs
-
-number-requires : tie.Need-number-requires
-number-requires c κs = search needs
 
 returns : tie.Need-returns
 unfolding answerNumber answerWritten stepRecord
@@ -57,12 +34,13 @@ returns-3 c =
 returns-4 : tie.Need-returns-4
 unfolding answerNumber answerWritten
 returns-4 c =
-    let c2 = c .before .before in
-    let c4 = c2 .before .before in
-    let c5 = c4 .before in
-    rw (← c5 .node-of .ensures, ← c4 .ask .ensures, c2 .answer2 .given .1) (c .number .ensures, refl)
+    let at-told = c .before in
+    let arm = at-told .before .before in
+    let at-ask = arm .before .before in
+    rw (← at-ask .before .node-of .ensures, ← at-ask .ask .ensures, arm .answer2 .given .1) (c .number .ensures ∙ ap numberOf (at-told .told .ensures), refl)
 
 pub steps-step-spec : {M : Type 1} → statement M
 steps-step-spec =
     tie.close
-    (tie.spec node-of-requires ask-requires enum-known-answer step-requires enum-told enum-told-2 enum-known-answer-2 number-requires returns returns-2 returns-3 returns-4)
+    (tie.spec (λ c κs. search needs) (λ c κs. search needs) (λ c. search needs) (λ c κs. search needs) (λ c. search needs) (λ c. search needs)
+    (λ c. search needs) (λ c κs. search needs) (λ c κs. search needs) returns returns-2 returns-3 returns-4)

@@ -5,11 +5,8 @@ use borrow.Author.Needs.{needs}
 use Rattle.stored.proofs.corner.Statement.{statement}
 use Rattle.stored.proofs.corner.Tie as tie
 
-slot-requires : tie.Need-slot-requires
-slot-requires c κs = search needs
-
 returns : tie.Need-returns
 returns c = c .slot .ensures ∙ sym (corner-read _ _ _ _ (c .before .before .pre .1))
 
 pub corner-spec : {M : Type 1} → statement M
-corner-spec = tie.close (tie.spec slot-requires returns)
+corner-spec = tie.close (tie.spec (λ c κs. search needs) returns)

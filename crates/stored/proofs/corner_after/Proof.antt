@@ -1,29 +1,21 @@
 -- `stored::corner_after` meets its contract: a slot behind the last counts as unused. Assumes nothing.
 use borrow.Author.Tests.{eq-eqb, ne-eqb}
+use Prim.Native.Nat.{_+_, _≤_}
+use denote.Ref.{now}
+use Rattle.plan.specs.Plan.{slotsIn}
 use Rattle.stored.specs.Stored.{cornerAfter}
 use Rattle.stored.proofs.Records.{corner-beyond}
 use borrow.Author.Needs.{needs}
 use Rattle.stored.proofs.corner_after.Statement.{statement}
 use Rattle.stored.proofs.corner_after.Tie as tie
 
-add-if1 : tie.Need-add-if1
-add-if1 c = search needs
-
-corner-requires : tie.Need-corner-requires
-corner-requires c κs = search needs
-
 returns : tie.Need-returns
 unfolding cornerAfter
-returns c = rw (corner-beyond _ _ _ _ (c .before .if1 .taken)) (c .corner .ensures)
-
-add-corner : tie.Need-add-corner
-add-corner c = search needs
-
-corner-requires-2 : tie.Need-corner-requires-2
-corner-requires-2 c κs = search needs
-
-corner-requires-3 : tie.Need-corner-requires-3
-corner-requires-3 c κs = search needs
+returns c =
+    let at-slots = c .before .before in
+    let behind : slotsIn (now (at-slots .before .before .args .plan)) ≤ at-slots .before .before .args .i + 1
+    = rw (at-slots .slots .ensures) at (c .before .if1 .taken) in
+    rw (corner-beyond _ _ _ _ behind) (c .corner .ensures)
 
 returns-2 : tie.Need-returns-2
 unfolding cornerAfter
@@ -37,11 +29,12 @@ pub corner-after-spec : {M : Type 1} → statement M
 corner-after-spec =
     tie.close
     (tie.spec
-    add-if1
-    corner-requires
+    (λ c κs. search needs)
+    (λ c. search needs)
+    (λ c κs. search needs)
     returns
-    add-corner
-    corner-requires-2
-    corner-requires-3
+    (λ c. search needs)
+    (λ c κs. search needs)
+    (λ c κs. search needs)
     returns-2
     returns-3)

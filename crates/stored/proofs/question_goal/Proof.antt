@@ -3,15 +3,6 @@ use Rattle.stored.specs.Stored.{questionOf}
 use Rattle.stored.proofs.question_goal.Statement.{statement}
 use Rattle.stored.proofs.question_goal.Tie as tie
 
-read-requires : tie.Need-read-requires
-read-requires c κs = search needs
-
-read-requires-2 : tie.Need-read-requires-2
-read-requires-2 c κs = search needs
-
-from-bits-requires : tie.Need-from-bits-requires
-from-bits-requires c κs = search needs
-
 returns : tie.Need-returns
 unfolding questionOf
 returns c =
@@ -22,4 +13,4 @@ returns c =
 pub question-goal-spec : {M : Type 1} → statement M
 question-goal-spec =
     tie.close
-    (tie.spec read-requires read-requires-2 from-bits-requires returns)
+    (tie.spec (λ c κs. search needs) (λ c κs. search needs) (λ c κs. search needs) returns)

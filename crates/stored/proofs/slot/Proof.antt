@@ -1,6 +1,6 @@
 -- `stored::slot` meets its contract: the slot is inside the list. Assumes nothing.
-use Rattle.stored.proofs.Records.{slot-within}
-use Rattle.stored.specs.Stored.{slotAt}
+use Rattle.stored.proofs.Records.{slot-within-by, slot-read-by}
+use Prim.Native.Nat.{_+_, _*_, _≤_}
 use lib.ListN.{length}
 use denote.Ref.{now}
 use native.Mathlib.Omega.{arith}
@@ -8,24 +8,25 @@ use borrow.Author.Needs.{needs}
 use Rattle.stored.proofs.slot.Statement.{statement}
 use Rattle.stored.proofs.slot.Tie as tie
 
-mul-read : tie.Need-mul-read
-mul-read c = search needs
+inside : (c : tie.After-slots)
+    → c .before .before .args .p * (c .slots .result * 8) + c .before .before .args .i * 4 + 4 ≤ length (now (c .before .before .args .polygons))
+inside c =
+    let start = c .before .before in
+    slot-within-by (c .slots .ensures) (length (now (start .args .polygons))) (start .args .p) (start .args .i) (start .pre .0 .1) (start .pre .1)
 
 mul-read-2 : tie.Need-mul-read-2
-mul-read-2 c = omega (arith, slot-within (length (now (c .before .args .polygons))) (c .before .args .slots) (c .before .args .p) (c .before .args .i) (c .before .pre .2) (c .before .pre .1))
-
-mul-read-3 : tie.Need-mul-read-3
-mul-read-3 c = search needs
+mul-read-2 c = omega (arith, inside c)
 
 add-read : tie.Need-add-read
-add-read c = omega (arith, slot-within (length (now (c .before .args .polygons))) (c .before .args .slots) (c .before .args .p) (c .before .args .i) (c .before .pre .2) (c .before .pre .1))
+add-read c = omega (arith, inside c)
 
 read-requires : tie.Need-read-requires
-read-requires c κs = slot-within (length (now (c .before .args .polygons))) (c .before .args .slots) (c .before .args .p) (c .before .args .i) (c .before .pre .2) (c .before .pre .1)
+read-requires c κs = inside c
 
 returns : tie.Need-returns
-unfolding slotAt
-returns c = c .read .ensures
+returns c =
+    let start = c .before .before .before in
+    slot-read-by (c .before .slots .ensures) (now (start .args .polygons)) (start .args .p) (start .args .i) (c .read .ensures)
 
 pub slot-spec : {M : Type 1} → statement M
-slot-spec = tie.close (tie.spec mul-read mul-read-2 mul-read-3 add-read read-requires returns)
+slot-spec = tie.close (tie.spec (λ c κs. search needs) (λ c. search needs) mul-read-2 (λ c. search needs) add-read read-requires returns)

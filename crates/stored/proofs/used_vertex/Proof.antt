@@ -2,15 +2,6 @@ use borrow.Author.Needs.{needs}
 use Rattle.stored.proofs.used_vertex.Statement.{statement}
 use Rattle.stored.proofs.used_vertex.Tie as tie
 
-stored-vertex-requires : tie.Need-stored-vertex-requires
-stored-vertex-requires c κs = search needs
-
-new-requires : tie.Need-new-requires
-new-requires c κs = search needs
-
-plus-requires : tie.Need-plus-requires
-plus-requires c κs = search needs
-
 returns : tie.Need-returns
 returns c =
     let c1 = c .before in
@@ -20,4 +11,4 @@ returns c =
 pub used-vertex-spec : {M : Type 1} → statement M
 used-vertex-spec =
     tie.close
-    (tie.spec stored-vertex-requires new-requires plus-requires returns)
+    (tie.spec (λ c κs. search needs) (λ c κs. search needs) (λ c κs. search needs) returns)

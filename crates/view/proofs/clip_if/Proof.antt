@@ -3,9 +3,6 @@ use Rattle.view.specs.View.{clipIf}
 use Rattle.view.proofs.clip_if.Statement.{statement}
 use Rattle.view.proofs.clip_if.Tie as tie
 
-clip-requires : tie.Need-clip-requires
-clip-requires c κs = search needs
-
 returns : tie.Need-returns
 unfolding clipIf
 returns c =
@@ -19,4 +16,4 @@ returns-2 c = rw (c .if1 .left)
 pub clip-if-spec : {M : Type 1} → statement M
 clip-if-spec =
     tie.close
-    (tie.spec clip-requires returns returns-2)
+    (tie.spec (λ c κs. search needs) returns returns-2)

@@ -6,21 +6,12 @@ use Rattle.steps.specs.Steps.{isInterval}
 use Rattle.view.proofs.is_interval.Statement.{statement}
 use Rattle.view.proofs.is_interval.Tie as tie
 
-same-requires : tie.Need-same-requires
-same-requires c κs = search needs
-
 returns : tie.Need-returns
 unfolding isInterval
 returns c =
     let c1 = c .before in
     let s = c1 .before .before .before in
     taken {test = sameOf (s .args .interval .0) (s .args .interval .1)} _ _ (sym (c1 .same .ensures) ∙ c .if1 .taken) refl
-
-is-finite-requires : tie.Need-is-finite-requires
-is-finite-requires c κs = search needs
-
-is-finite-requires-2 : tie.Need-is-finite-requires-2
-is-finite-requires-2 c κs = search needs
 
 returns-2 : tie.Need-returns-2
 unfolding isInterval
@@ -42,4 +33,4 @@ returns-3 c =
 pub is-interval-spec : {M : Type 1} → statement M
 is-interval-spec =
     tie.close
-    (tie.spec same-requires returns is-finite-requires is-finite-requires-2 returns-2 returns-3)
+    (tie.spec (λ c κs. search needs) returns (λ c κs. search needs) (λ c κs. search needs) returns-2 returns-3)

@@ -5,15 +5,6 @@ use Rattle.view.specs.View.{overBy}
 use Rattle.view.proofs.over.Statement.{statement}
 use Rattle.view.proofs.over.Tie as tie
 
-clip-if-requires : tie.Need-clip-if-requires
-clip-if-requires c κs = search needs
-
-enum-known-clipped : tie.Need-enum-known-clipped
-enum-known-clipped c = search needs
-
-is-interval-requires : tie.Need-is-interval-requires
-is-interval-requires c κs = search needs
-
 returns : tie.Need-returns
 unfolding overBy
 returns c =
@@ -21,15 +12,6 @@ returns c =
     let c3 = c1 .before .before in
     let c5 = c3 .before .before in
     rw (← c5 .clip-if .ensures, c3 .clipped .given .1, ← c1 .is-interval .ensures, not-true (c .before .is-interval .result) (c .if1 .taken))
-
-corner-requires : tie.Need-corner-requires
-corner-requires c κs = search needs
-
-corner-after-requires : tie.Need-corner-after-requires
-corner-after-requires c κs = search needs
-
-enum-told : tie.Need-enum-told
-enum-told c = search needs
 
 returns-2 : tie.Need-returns-2
 unfolding overBy
@@ -39,7 +21,15 @@ returns-2 c =
     let c3 = c2 .before in
     let c5 = c3 .before .before in
     let c7 = c5 .before .before in
-    rw (← c7 .clip-if .ensures, c5 .clipped .given .1, ← c3 .is-interval .ensures, not-false (c2 .before .is-interval .result) (c2 .if1 .left), ← c1 .corner .ensures, ← c .corner-after .ensures)
+    rw (
+      ← c7 .clip-if .ensures,
+      c5 .clipped .given .1,
+      ← c3 .is-interval .ensures,
+      not-false (c2 .before .is-interval .result)
+          (c2 .if1 .left),
+      ← c1 .corner .ensures,
+      ← c .corner-after .ensures,
+    )
 
 returns-3 : tie.Need-returns-3
 unfolding overBy
@@ -50,4 +40,5 @@ returns-3 c =
 pub over-spec : {M : Type 1} → statement M
 over-spec =
     tie.close
-    (tie.spec clip-if-requires enum-known-clipped is-interval-requires returns corner-requires corner-after-requires enum-told returns-2 returns-3)
+    (tie.spec (λ c κs. search needs) (λ c. search needs) (λ c κs. search needs) returns (λ c κs. search needs) (λ c κs. search needs)
+    (λ c. search needs) returns-2 returns-3)

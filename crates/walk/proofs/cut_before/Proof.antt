@@ -4,27 +4,6 @@ use Rattle.walk.proofs.Cuts.{both-at, first-only}
 use Rattle.walk.proofs.cut_before.Statement.{statement}
 use Rattle.walk.proofs.cut_before.Tie as tie
 
-enum-known-at : tie.Need-enum-known-at
-enum-known-at c = search needs
-
-new-requires : tie.Need-new-requires
-new-requires c κs = search needs
-
-new-requires-2 : tie.Need-new-requires-2
-new-requires-2 c κs = search needs
-
-three-requires : tie.Need-three-requires
-three-requires c κs = search needs
-
-enum-told : tie.Need-enum-told
-enum-told c = search needs
-
-new-requires-3 : tie.Need-new-requires-3
-new-requires-3 c κs = search needs
-
-two-requires : tie.Need-two-requires
-two-requires c κs = search needs
-
 returns : tie.Need-returns
 returns c =
     let c1 = c .before in
@@ -40,4 +19,4 @@ returns-2 c =
     first-only _ _ _ _ (c2 .enum-told .given .1) (simp (c .two .ensures, c1 .new3 .ensures))
 
 pub cut-before-spec : {M : Type 1} → statement M
-cut-before-spec = tie.close (tie.spec enum-known-at new-requires new-requires-2 three-requires enum-told new-requires-3 two-requires returns returns-2)
+cut-before-spec = tie.close (tie.spec (λ c. search needs) (λ c κs. search needs) (λ c κs. search needs) (λ c κs. search needs) (λ c. search needs) (λ c κs. search needs) (λ c κs. search needs) returns returns-2)

@@ -4,12 +4,6 @@ use Rattle.walk.specs.Walk.{leftOf}
 use Rattle.walk.proofs.left_of.Statement.{statement}
 use Rattle.walk.proofs.left_of.Tie as tie
 
-enum-known-at : tie.Need-enum-known-at
-enum-known-at c = search needs
-
-enum-told : tie.Need-enum-told
-enum-told c = search needs
-
 returns : tie.Need-returns
 unfolding leftOf
 returns c =
@@ -23,4 +17,4 @@ returns-2 c = rw (c .enum-told .given .1)
 pub left-of-spec : {M : Type 1} → statement M
 left-of-spec =
     tie.close
-    (tie.spec enum-known-at enum-told returns returns-2)
+    (tie.spec (λ c. search needs) (λ c. search needs) returns returns-2)

@@ -7,38 +7,11 @@ use Rattle.walk_c.specs.Walk.{walkNumber, walkWritten}
 use Rattle.walk_c.proofs.geometry_walk_edge.Statement.{statement}
 use Rattle.walk_c.proofs.geometry_walk_edge.Tie as tie
 
-kind-asked-requires : tie.Need-kind-asked-requires
-kind-asked-requires c κs = search needs
-
-enum-known-asked : tie.Need-enum-known-asked
-enum-known-asked c = search needs
-
-from-bits-requires : tie.Need-from-bits-requires
-from-bits-requires c κs = search needs
-
-segment-requires : tie.Need-segment-requires
-segment-requires c κs = search needs
-
-segment-requires-2 : tie.Need-segment-requires-2
-segment-requires-2 c κs = search needs
-
-walk-edge-requires : tie.Need-walk-edge-requires
-walk-edge-requires c κs = search needs
-
 put-parts-requires : tie.Need-put-parts-requires
 put-parts-requires c κs = at-most-three _ _ _ _ (c .before .before .walk-edge .ensures)
 
-kind-number-requires : tie.Need-kind-number-requires
-kind-number-requires c κs = search needs
-
-element-write-out : tie.Need-element-write-out
-element-write-out c = search needs
-
 cast-result : tie.Need-cast-result
 cast-result c = omega (arith, at-most-three _ _ _ _ (c .before .before .before .before .before .walk-edge .ensures))
-
-enum-told : tie.Need-enum-told
-enum-told c = search needs
 
 returns : tie.Need-returns
 returns c =
@@ -60,4 +33,4 @@ returns-2 c =
     rw (← c2 .kind-asked .ensures, c .enum-told .given .1) (refl, refl)
 
 pub geometry-walk-edge-spec : {M : Type 1} → statement M
-geometry-walk-edge-spec = tie.close (tie.spec kind-asked-requires enum-known-asked from-bits-requires segment-requires segment-requires-2 walk-edge-requires put-parts-requires kind-number-requires element-write-out cast-result enum-told returns returns-2)
+geometry-walk-edge-spec = tie.close (tie.spec (λ c κs. search needs) (λ c. search needs) (λ c κs. search needs) (λ c κs. search needs) (λ c κs. search needs) (λ c κs. search needs) put-parts-requires (λ c κs. search needs) (λ c. search needs) cast-result (λ c. search needs) returns returns-2)

@@ -6,14 +6,8 @@ use borrow.Author.Needs.{needs}
 use Rattle.writing.proofs.end_after.Statement.{statement}
 use Rattle.writing.proofs.end_after.Tie as tie
 
-ending-requires : tie.Need-ending-requires
-ending-requires c κs = search needs
-
-end-requires : tie.Need-end-requires
-end-requires c κs = search needs
-
 returns : tie.Need-returns
-returns c = c .end .ensures ∙ ap (λ (e : Ending). endRecord (e .points) (c .before .before .before .args .task .goal) (e .length)) (c .before .ending .ensures)
+returns c = c .end .ensures ∙ ap (λ (e : Ending). endRecord (e .points) (c .before .before .args .goal) (e .length)) (c .before .ending .ensures)
 
 pub end-after-spec : {M : Type 1} → statement M
-end-after-spec = tie.close (tie.spec ending-requires end-requires returns)
+end-after-spec = tie.close (tie.spec (λ c κs. search needs) (λ c κs. search needs) returns)

@@ -29,7 +29,10 @@ write-requires : tie.Need-write-requires Inv-loop μ-loop
 write-requires c κs = c .before .before .before .before .loop .inv .room
 
 parent-at-requires : tie.Need-parent-at-requires Inv-loop μ-loop
-parent-at-requires c κs = row-of _ _ _ _ (c .before .before .before .before .before .before .loop-test .taken) (c .before .before .before .before .before .before .before .loop .inv .lies) .in-words
+parent-at-requires c κs =
+    let at-loop-test = c .before .before .before .before .before .before in
+    let at-loop = at-loop-test .before in
+    row-of _ _ _ _ (at-loop-test .loop-test .taken) (at-loop .loop .inv .lies) .in-words
 
 cast-place : tie.Need-cast-place Inv-loop μ-loop
 cast-place c = search needs
@@ -42,8 +45,15 @@ loop-less c = omega (arith, c .before .before .before .before .before .before .b
 
 loop-again : tie.Need-loop-again Inv-loop μ-loop
 loop-again c =
-    let s = c .before .before .before .before .before .before .before .before .before .before .before .before in
-    chaining-goes-on (now (s .args .floats)) (now (s .args .words)) (s .args .depth) (s .args .i) (now (s .args .out)) _ _ _ (c .before .before .before .before .before .before .before .before .loop .inv) (c .before .before .before .before .before .before .before .loop-test .taken) (c .before .before .before .before .before .before .step-at .result) (c .before .before .before .before .before .step .result) _ (c .parent-at .result) (c .before .before .before .before .before .before .step-at .ensures) (c .before .before .before .before .before .step .ensures) (c .before .before .before .write .ensures) (c .parent-at .ensures)
+    let at-write = c .before .before .before in
+    let at-step = at-write .before .before in
+    let at-step-at = at-step .before in
+    let at-loop-test = at-step-at .before in
+    let at-loop = at-loop-test .before in
+    let s = at-loop .before .before .before .before in
+    chaining-goes-on (now (s .args .floats)) (now (s .args .words)) (s .args .depth) (s .args .i) (now (s .args .out)) _ _ _ (at-loop .loop .inv)
+    (at-loop-test .loop-test .taken) (at-step-at .step-at .result) (at-step .step .result) _ (c .parent-at .result) (at-step-at .step-at .ensures)
+    (at-step .step .ensures) (at-write .write .ensures) (c .parent-at .ensures)
 
 same-length : tie.Need-same-length Inv-loop μ-loop
 same-length c = c .before .loop .inv .same
@@ -51,7 +61,8 @@ same-length c = c .before .loop .inv .same
 returns : tie.Need-returns Inv-loop μ-loop
 returns c =
     let s = c .before .before .before .before .before in
-    chaining-ends (now (s .args .floats)) (now (s .args .words)) (s .args .depth) (s .args .i) (now (s .args .out)) _ _ _ (c .before .loop .inv) (c .loop-test .left)
+    chaining-ends (now (s .args .floats)) (now (s .args .words)) (s .args .depth) (s .args .i) (now (s .args .out)) _ _ _ (c .before .loop .inv)
+    (c .loop-test .left)
 
 pub write-chain-spec : {M : Type 1} → statement M
 write-chain-spec =

@@ -1,64 +1,48 @@
 -- `write_straight` meets its contract: the end and the seed, and what stood behind them stays. Assumes nothing.
 use denote.Ref.{now}
 use mathlib.Core.Path.{sym, ap}
-use Rattle.writing.specs.Told.{Told}
+use Rattle.writing.specs.Delivered.{Delivered}
 use Rattle.writing.proofs.Written.{straight-short, straight-told, seed-few}
 use borrow.Author.Needs.{needs}
 use Rattle.writing.proofs.write_straight.Statement.{statement}
 use Rattle.writing.proofs.write_straight.Tie as tie
 
-mul-bytes : tie.Need-mul-bytes
-mul-bytes c = search needs
-
 returns : tie.Need-returns
 returns c =
     let s = c .before .before in
-    let e = straight-short (s .args .start) (s .args .p) (s .args .task .goal) (now (s .args .out)) (c .if1 .taken) in
-    (sym (ap (λ (t : Told). t .answer) e), sym (ap (λ (t : Told). t .out) e))
-
-cast-seed : tie.Need-cast-seed
-cast-seed c = search needs
-
-seed-requires : tie.Need-seed-requires
-seed-requires c κs = search needs
+    let e = straight-short (s .args .trip) (now (s .args .out)) (c .if1 .taken) in
+    (sym (ap (λ (t : Delivered). t .answer) e), sym (ap (λ (t : Delivered). t .out) e))
 
 end-after-requires : tie.Need-end-after-requires
-end-after-requires c κs = seed-few (c .before .before .before .args .start) (c .before .before .before .args .p) (c .seed .result) (c .seed .ensures)
-
-write-requires : tie.Need-write-requires
-write-requires c κs = search needs
-
-cast-seed-2 : tie.Need-cast-seed-2
-cast-seed-2 c = search needs
-
-seed-requires-2 : tie.Need-seed-requires-2
-seed-requires-2 c κs = search needs
-
-write-requires-2 : tie.Need-write-requires-2
-write-requires-2 c κs = search needs
-
-same-length : tie.Need-same-length
-same-length c = search needs
+end-after-requires c κs =
+    let start = c .before .before .before in
+    seed-few (start .args .trip .start) (start .args .trip .from) (c .seed .result) (c .seed .ensures)
 
 returns-2 : tie.Need-returns-2
 returns-2 c =
-    let s = c .before .before .before .before .before .before .before .before .before .before .before .before .before in
+    let at-write2 = c .before .before in
+    let at-seed2 = at-write2 .before .before in
+    let at-write = at-seed2 .before .before .before in
+    let at-end-after = at-write .before .before in
+    let at-seed = at-end-after .before in
+    let at-if1 = at-seed .before in
+    let s = at-if1 .before .before in
     let e =
-    straight-told (s .args .start) (s .args .p) (s .args .task .goal) (now (s .args .out)) (c .before .before .before .before .before .before .before .before .before .before .seed .result) (c .before .before .before .before .before .before .before .before .before .end-after .result) (c .before .before .before .before .seed2 .result) _ _ (c .before .before .before .before .before .before .before .before .before .before .before .if1 .left) (c .before .before .before .before .before .before .before .before .before .before .seed .ensures) (c .before .before .before .before .before .before .before .before .before .end-after .ensures) (c .before .before .before .before .before .before .before .write .ensures) (c .before .before .before .before .seed2 .ensures) (c .before .before .write2 .ensures) in
-    (sym (ap (λ (t : Told). t .answer) e), sym (ap (λ (t : Told). t .out) e))
+    straight-told (s .args .trip) (now (s .args .out)) (at-seed .seed .result) (at-end-after .end-after .result)
+    (at-seed2 .seed2 .result) _ _ (at-if1 .if1 .left) (at-seed .seed .ensures) (at-end-after .end-after .ensures) (at-write .write .ensures)
+    (at-seed2 .seed2 .ensures) (at-write2 .write2 .ensures) in
+    (sym (ap (λ (t : Delivered). t .answer) e), sym (ap (λ (t : Delivered). t .out) e))
 
 pub write-straight-spec : {M : Type 1} → statement M
 write-straight-spec =
     tie.close
     (tie.spec
-    mul-bytes
+    (λ c. search needs)
     returns
-    cast-seed
-    seed-requires
+    (λ c κs. search needs)
     end-after-requires
-    write-requires
-    cast-seed-2
-    seed-requires-2
-    write-requires-2
-    same-length
+    (λ c κs. search needs)
+    (λ c κs. search needs)
+    (λ c κs. search needs)
+    (λ c. search needs)
     returns-2)

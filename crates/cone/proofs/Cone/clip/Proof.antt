@@ -7,20 +7,11 @@ use Rattle.cone.proofs.Cases.{away, kept}
 use Rattle.cone.proofs.Cone.clip.Statement.{statement}
 use Rattle.cone.proofs.Cone.clip.Tie as tie
 
-has-short-ray-requires : tie.Need-has-short-ray-requires
-has-short-ray-requires c κs = search needs
-
 returns : tie.Need-returns
 unfolding clipOf
 returns c =
     let c1 = c .before in
     taken _ _ (simp (c1 .has-short-ray .ensures) at (c .if1 .taken)) refl
-
-part-inside-requires : tie.Need-part-inside-requires
-part-inside-requires c κs = search needs
-
-enum-known-inside : tie.Need-enum-known-inside
-enum-known-inside c = search needs
 
 returns-2 : tie.Need-returns-2
 unfolding clipOf
@@ -32,12 +23,6 @@ returns-2 c =
     left _ _ (simp (c7 .has-short-ray .ensures) at (c6 .if1 .left))
     (kept _ _ (simp (c5 .part-inside .ensures) at (c3 .inside .given .1))
     (taken _ _ (c .if2 .taken) refl))
-
-of-requires : tie.Need-of-requires
-of-requires c κs = search needs
-
-enum-told : tie.Need-enum-told
-enum-told c = search needs
 
 returns-3 : tie.Need-returns-3
 unfolding clipOf
@@ -61,4 +46,4 @@ returns-4 c =
     (away _ _ (simp (c2 .part-inside .ensures) at (c .enum-told .given .1)) refl)
 
 pub clip-spec : {M : Type 1} → statement M
-clip-spec = tie.close (tie.spec has-short-ray-requires returns part-inside-requires enum-known-inside returns-2 of-requires enum-told returns-3 returns-4)
+clip-spec = tie.close (tie.spec (λ c κs. search needs) returns (λ c κs. search needs) (λ c. search needs) returns-2 (λ c κs. search needs) (λ c. search needs) returns-3 returns-4)

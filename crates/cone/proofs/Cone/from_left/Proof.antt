@@ -4,12 +4,6 @@ use Rattle.cone.specs.Cone.{fromLeftOf}
 use Rattle.cone.proofs.Cone.from_left.Statement.{statement}
 use Rattle.cone.proofs.Cone.from_left.Tie as tie
 
-minus-requires : tie.Need-minus-requires
-minus-requires c κs = search needs
-
-perp-dot-requires : tie.Need-perp-dot-requires
-perp-dot-requires c κs = search needs
-
 returns : tie.Need-returns
 unfolding fromLeftOf
 returns c =
@@ -18,4 +12,4 @@ returns c =
     simp (c1 .perp-dot .ensures, c2 .minus .ensures)
 
 pub from-left-spec : {M : Type 1} → statement M
-from-left-spec = tie.close (tie.spec minus-requires perp-dot-requires returns)
+from-left-spec = tie.close (tie.spec (λ c κs. search needs) (λ c κs. search needs) returns)

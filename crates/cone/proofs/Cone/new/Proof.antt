@@ -4,12 +4,6 @@ use Rattle.cone.specs.Cone.{coneOf}
 use Rattle.cone.proofs.Cone.new.Statement.{statement}
 use Rattle.cone.proofs.Cone.new.Tie as tie
 
-new-requires : tie.Need-new-requires
-new-requires c κs = search needs
-
-new-requires-2 : tie.Need-new-requires-2
-new-requires-2 c κs = search needs
-
 returns : tie.Need-returns
 unfolding coneOf
 returns c =
@@ -17,4 +11,4 @@ returns c =
     simp (c .new2 .ensures, c1 .new .ensures)
 
 pub new-spec : {M : Type 1} → statement M
-new-spec = tie.close (tie.spec new-requires new-requires-2 returns)
+new-spec = tie.close (tie.spec (λ c κs. search needs) (λ c κs. search needs) returns)

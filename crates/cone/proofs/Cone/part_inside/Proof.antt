@@ -6,30 +6,6 @@ use Rattle.cone.proofs.Cases.{away, kept}
 use Rattle.cone.proofs.Cone.part_inside.Statement.{statement}
 use Rattle.cone.proofs.Cone.part_inside.Tie as tie
 
-from-right-requires : tie.Need-from-right-requires
-from-right-requires c κs = search needs
-
-from-right-requires-2 : tie.Need-from-right-requires-2
-from-right-requires-2 c κs = search needs
-
-cut-requires : tie.Need-cut-requires
-cut-requires c κs = search needs
-
-enum-known-by-right : tie.Need-enum-known-by-right
-enum-known-by-right c = search needs
-
-from-left-requires : tie.Need-from-left-requires
-from-left-requires c κs = search needs
-
-from-left-requires-2 : tie.Need-from-left-requires-2
-from-left-requires-2 c κs = search needs
-
-cut-requires-2 : tie.Need-cut-requires-2
-cut-requires-2 c κs = search needs
-
-enum-told : tie.Need-enum-told
-enum-told c = search needs
-
 returns : tie.Need-returns
 unfolding partInsideOf
 returns c =
@@ -51,4 +27,4 @@ returns-2 c =
     away _ _ (simp (c2 .cut .ensures, c3 .from-right2 .ensures, c4 .from-right .ensures) at (c .enum-told .given .1)) refl
 
 pub part-inside-spec : {M : Type 1} → statement M
-part-inside-spec = tie.close (tie.spec from-right-requires from-right-requires-2 cut-requires enum-known-by-right from-left-requires from-left-requires-2 cut-requires-2 enum-told returns returns-2)
+part-inside-spec = tie.close (tie.spec (λ c κs. search needs) (λ c κs. search needs) (λ c κs. search needs) (λ c. search needs) (λ c κs. search needs) (λ c κs. search needs) (λ c κs. search needs) (λ c. search needs) returns returns-2)

@@ -6,20 +6,11 @@ use Rattle.point.proofs.Cases.{left, taken}
 use Rattle.cone.proofs.Part.cut.Statement.{statement}
 use Rattle.cone.proofs.Part.cut.Tie as tie
 
-both-outside-requires : tie.Need-both-outside-requires
-both-outside-requires c κs = search needs
-
 returns : tie.Need-returns
 unfolding cutOf
 returns c =
     let c1 = c .before in
     taken _ _ (simp (c1 .both-outside .ensures) at (c .if1 .taken)) refl
-
-fraction-requires : tie.Need-fraction-requires
-fraction-requires c κs = search needs
-
-raised-requires : tie.Need-raised-requires
-raised-requires c κs = search needs
 
 returns-2 : tie.Need-returns-2
 unfolding cutOf
@@ -30,12 +21,6 @@ returns-2 c =
     let c4 = c3 .before in
     left _ _ (simp (c4 .both-outside .ensures) at (c3 .if1 .left))
     (taken _ _ (c2 .if2 .taken) (simp (c .raised .ensures, c1 .fraction .ensures)))
-
-fraction-requires-2 : tie.Need-fraction-requires-2
-fraction-requires-2 c κs = search needs
-
-lowered-requires : tie.Need-lowered-requires
-lowered-requires c κs = search needs
 
 returns-3 : tie.Need-returns-3
 unfolding cutOf
@@ -60,4 +45,4 @@ returns-4 c =
     (left _ _ (c .if3 .left) refl))
 
 pub cut-spec : {M : Type 1} → statement M
-cut-spec = tie.close (tie.spec both-outside-requires returns fraction-requires raised-requires returns-2 fraction-requires-2 lowered-requires returns-3 returns-4)
+cut-spec = tie.close (tie.spec (λ c κs. search needs) returns (λ c κs. search needs) (λ c κs. search needs) returns-2 (λ c κs. search needs) (λ c κs. search needs) returns-3 returns-4)

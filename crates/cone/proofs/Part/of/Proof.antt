@@ -4,21 +4,6 @@ use Rattle.cone.specs.Cone.{partOf}
 use Rattle.cone.proofs.Part.of.Statement.{statement}
 use Rattle.cone.proofs.Part.of.Tie as tie
 
-minus-requires : tie.Need-minus-requires
-minus-requires c κs = search needs
-
-times-requires : tie.Need-times-requires
-times-requires c κs = search needs
-
-plus-requires : tie.Need-plus-requires
-plus-requires c κs = search needs
-
-times-requires-2 : tie.Need-times-requires-2
-times-requires-2 c κs = search needs
-
-plus-requires-2 : tie.Need-plus-requires-2
-plus-requires-2 c κs = search needs
-
 returns : tie.Need-returns
 unfolding partOf
 returns c =
@@ -29,4 +14,4 @@ returns c =
     simp (c .plus2 .ensures, c1 .times2 .ensures, c2 .plus .ensures, c3 .times .ensures, c4 .minus .ensures)
 
 pub of-spec : {M : Type 1} → statement M
-of-spec = tie.close (tie.spec minus-requires times-requires plus-requires times-requires-2 plus-requires-2 returns)
+of-spec = tie.close (tie.spec (λ c κs. search needs) (λ c κs. search needs) (λ c κs. search needs) (λ c κs. search needs) (λ c κs. search needs) returns)

@@ -4,12 +4,6 @@ use Rattle.cone.specs.Cone.{rayOf}
 use Rattle.cone.proofs.Ray.new.Statement.{statement}
 use Rattle.cone.proofs.Ray.new.Tie as tie
 
-minus-requires : tie.Need-minus-requires
-minus-requires c κs = search needs
-
-length-requires : tie.Need-length-requires
-length-requires c κs = search needs
-
 returns : tie.Need-returns
 unfolding rayOf
 returns c =
@@ -17,4 +11,4 @@ returns c =
     simp (c .length .ensures, c1 .minus .ensures)
 
 pub new-spec : {M : Type 1} → statement M
-new-spec = tie.close (tie.spec minus-requires length-requires returns)
+new-spec = tie.close (tie.spec (λ c κs. search needs) (λ c κs. search needs) returns)

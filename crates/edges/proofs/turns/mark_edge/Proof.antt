@@ -1,49 +1,50 @@
 -- `edges::turns::mark_edge` meets its contract: both ends of an edge are vertices of the list. Assumes nothing.
 use native.Mathlib.Omega.{arith}
-use mathlib.Core.Path.{refl}
 use borrow.Author.Tests.{eq-eqb, ne-eqb}
-use denote.Ref.{now}
 use Rattle.edges.specs.Where.{markEdge}
-use Rattle.edges.proofs.Inside.{slot-inside, ends-inside}
+use Rattle.edges.proofs.Inside.{slot-inside, corner-below, after-below}
 use borrow.Author.Needs.{needs}
 use Rattle.edges.proofs.turns.mark_edge.Statement.{statement}
 use Rattle.edges.proofs.turns.mark_edge.Tie as tie
 
 neighbour-requires : tie.Need-neighbour-requires
-neighbour-requires c κs = (c .before .before .pre .0 .few, slot-inside (c .before .before .args .slots) (now (c .before .before .args .vertices)) (now (c .before .before .args .polygons)) (c .before .before .args .p) (c .before .before .pre .0) (c .before .before .args .i) (c .before .before .pre .1 .0), c .before .before .pre .0 .listed)
+neighbour-requires c κs = let start = c .before in (start .pre .0 .0, slot-inside _ _ _ _ (start .pre .0 .1))
 
 corner-requires : tie.Need-corner-requires
-corner-requires c κs = (c .before .before .before .before .pre .0 .few, slot-inside (c .before .before .before .before .args .slots) (now (c .before .before .before .before .args .vertices)) (now (c .before .before .before .before .args .polygons)) (c .before .before .before .before .args .p) (c .before .before .before .before .pre .0) (c .before .before .before .before .args .i) (c .before .before .before .before .pre .1 .0), c .before .before .before .before .pre .0 .listed)
-
-cast-a : tie.Need-cast-a
-cast-a c = search needs
+corner-requires c κs = let start = c .before .before .before in (start .pre .0 .0, slot-inside _ _ _ _ (start .pre .0 .1))
 
 corner-after-requires : tie.Need-corner-after-requires
-corner-after-requires c κs = (c .before .before .before .before .before .pre .0 .few, slot-inside (c .before .before .before .before .before .args .slots) (now (c .before .before .before .before .before .args .vertices)) (now (c .before .before .before .before .before .args .polygons)) (c .before .before .before .before .before .args .p) (c .before .before .before .before .before .pre .0) (c .before .before .before .before .before .args .i) (c .before .before .before .before .before .pre .1 .0), c .before .before .before .before .before .pre .0 .listed)
+corner-after-requires c κs = let start = c .before .before .before .before in (start .pre .0 .0, slot-inside _ _ _ _ (start .pre .0 .1))
 
-cast-b : tie.Need-cast-b
-cast-b c = search needs
-
-mark-vertex-requires : tie.Need-mark-vertex-requires
-mark-vertex-requires c κs =
-    let s = c .before .before .before .before .before .before .before in
-    let ends = ends-inside (s .args .slots) (now (s .args .vertices)) (now (s .args .polygons)) (s .args .p) (s .pre .0) (s .args .i) (s .pre .1 .0) (s .pre .1 .1) in
-    omega (arith, c .before .before .corner .ensures, ends .0)
+mark-requires : tie.Need-mark-requires
+mark-requires c κs =
+    let at-corner = c .before .before in
+    let start = at-corner .before .before .before .before in
+    let first = corner-below _ _ _ _ (start .pre .1 .0) (start .args .i) (start .pre .0 .1) in
+    omega (arith, at-corner .corner .ensures, first)
 
 -- both ends are told, so that a wrong end is refused for what it marks, and not for where it writes
-mark-vertex-requires-2 : tie.Need-mark-vertex-requires-2
-mark-vertex-requires-2 c κs =
-    let l = c .before .before .before in
-    let s = l .before .before .before .before .before .before in
-    let ends = ends-inside (s .args .slots) (now (s .args .vertices)) (now (s .args .polygons)) (s .args .p) (s .pre .0) (s .args .i) (s .pre .1 .0) (s .pre .1 .1) in
-    omega (arith, l .before .corner .ensures, l .corner-after .ensures, ends .0, ends .1)
+mark-requires-2 : tie.Need-mark-requires-2
+mark-requires-2 c κs =
+    let at-after = c .before .before .before in
+    let start = at-after .before .before .before .before .before in
+    let first = corner-below _ _ _ _ (start .pre .1 .0) (start .args .i) (start .pre .0 .1) in
+    let second = after-below _ _ _ _ (start .pre .1 .0) (start .args .i) (start .pre .0 .1) in
+    omega (arith, at-after .before .corner .ensures, at-after .corner-after .ensures, first, second)
 
 returns : tie.Need-returns
 unfolding markEdge
 returns c =
-    let l = c .before .before in
-    let k = l .before .before in
-    rw (← k .before .before .before .neighbour .ensures, eq-eqb _ _ (k .before .before .if1 .taken), ← k .before .corner .ensures, ← k .corner-after .ensures, ← l .mark-vertex .ensures) (c .mark-vertex2 .ensures)
+    let at-mark = c .before .before in
+    let at-after = at-mark .before .before in
+    let at-if1 = at-after .before .before in
+    rw (
+      ← at-if1 .before .neighbour .ensures,
+      eq-eqb _ _ (at-if1 .if1 .taken),
+      ← at-after .before .corner .ensures,
+      ← at-after .corner-after .ensures,
+      ← at-mark .mark .ensures,
+    ) (c .mark2 .ensures)
 
 returns-2 : tie.Need-returns-2
 unfolding markEdge
@@ -55,10 +56,10 @@ mark-edge-spec =
     (tie.spec
     neighbour-requires
     corner-requires
-    cast-a
+    (λ c. search needs)
     corner-after-requires
-    cast-b
-    mark-vertex-requires
-    mark-vertex-requires-2
+    (λ c. search needs)
+    mark-requires
+    mark-requires-2
     returns
     returns-2)

@@ -4,26 +4,28 @@ use mathlib.Core.Path.{_≡_, refl}
 use native.Mathlib.Numerals.{add-one}
 use native.Mathlib.Omega.{arith}
 use Rattle.edges.specs.Where.{markEdges}
-use Rattle.stored.specs.Stored.{polygonAt, floorOf}
-use Rattle.edges.proofs.Inside.{listed-of}
+use Rattle.stored.specs.Stored.{recordIn}
 use Rattle.edges.proofs.turns.mark_edges.Statement.{statement}
 use Rattle.edges.proofs.turns.mark_edges.Tie as tie
 
 abbrev Inv-loop : tie.InvT-loop
-Inv-loop vertices polygons slots p marks₀ n i₀ marks i = (i ≤ n) × (marks ≡ markEdges (polygonAt slots polygons p) i marks₀)
+Inv-loop polygons plan p marks₀ n i₀ marks i = (i ≤ n) × (marks ≡ markEdges (recordIn plan polygons p) i marks₀)
 
 abbrev μ-loop : tie.MeasureT-loop
-μ-loop vertices polygons slots p marks₀ n i₀ marks i = n - i
+μ-loop polygons plan p marks₀ n i₀ marks i = n - i
 
 corner-count-requires : tie.Need-corner-count-requires Inv-loop μ-loop
-corner-count-requires c κs = (c .before .before .pre .0 .few, c .before .before .pre .0 .listed)
+corner-count-requires c κs = c .before .pre .0
 
 loop-holds : tie.Need-loop-holds Inv-loop μ-loop
 unfolding markEdges
 loop-holds c = (omega arith, refl)
 
 mark-edge-requires : tie.Need-mark-edge-requires Inv-loop μ-loop
-mark-edge-requires c κs = (c .before .before .before .before .before .before .pre .0, (rw (c .before .before .before .corner-count .ensures .0) at (c .before .loop-test .taken), c .before .before .before .before .before .before .pre .1))
+mark-edge-requires c κs =
+    let at-corner-count = c .before .before .before in
+    let start = at-corner-count .before .before in
+    ((start .pre .0, rw (at-corner-count .corner-count .ensures .0) at (c .before .loop-test .taken)), start .pre .1)
 
 add-i : tie.Need-add-i Inv-loop μ-loop
 add-i c = omega arith
@@ -37,8 +39,9 @@ loop-again c = (omega arith, rw (add-one, ← c .before .before .before .loop .i
 
 returns : tie.Need-returns Inv-loop μ-loop
 returns c =
-    let e : c .before .loop .i ≡ c .before .before .corner-count .result = omega arith in
-    rw (← c .before .before .corner-count .ensures .0, ← e) (c .before .loop .inv .1)
+    let at-corner-count = c .before .before in
+    let e : c .before .loop .i ≡ at-corner-count .corner-count .result = omega arith in
+    rw (← at-corner-count .corner-count .ensures .0, ← e) (c .before .loop .inv .1)
 
 pub mark-edges-spec : {M : Type 1} → statement M
 mark-edges-spec =

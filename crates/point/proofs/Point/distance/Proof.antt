@@ -4,12 +4,6 @@ use Rattle.point.specs.Point.{distanceOf}
 use Rattle.point.proofs.Point.distance.Statement.{statement}
 use Rattle.point.proofs.Point.distance.Tie as tie
 
-minus-requires : tie.Need-minus-requires
-minus-requires c κs = search needs
-
-length-requires : tie.Need-length-requires
-length-requires c κs = search needs
-
 returns : tie.Need-returns
 unfolding distanceOf
 returns c =
@@ -17,4 +11,4 @@ returns c =
     simp (c .length .ensures, c1 .minus .ensures)
 
 pub distance-spec : {M : Type 1} → statement M
-distance-spec = tie.close (tie.spec minus-requires length-requires returns)
+distance-spec = tie.close (tie.spec (λ c κs. search needs) (λ c κs. search needs) returns)

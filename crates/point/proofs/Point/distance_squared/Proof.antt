@@ -4,12 +4,6 @@ use Rattle.point.specs.Point.{distanceSquaredOf}
 use Rattle.point.proofs.Point.distance_squared.Statement.{statement}
 use Rattle.point.proofs.Point.distance_squared.Tie as tie
 
-minus-requires : tie.Need-minus-requires
-minus-requires c κs = search needs
-
-dot-requires : tie.Need-dot-requires
-dot-requires c κs = search needs
-
 returns : tie.Need-returns
 unfolding distanceSquaredOf
 returns c =
@@ -17,4 +11,4 @@ returns c =
     simp (c .dot .ensures, c1 .minus .ensures)
 
 pub distance-squared-spec : {M : Type 1} → statement M
-distance-squared-spec = tie.close (tie.spec minus-requires dot-requires returns)
+distance-squared-spec = tie.close (tie.spec (λ c κs. search needs) (λ c κs. search needs) returns)

@@ -5,12 +5,6 @@ use Rattle.point.proofs.Cases.{and-left, and-taken}
 use Rattle.point.proofs.Point.in_bounding_box.Statement.{statement}
 use Rattle.point.proofs.Point.in_bounding_box.Tie as tie
 
-between-requires : tie.Need-between-requires
-between-requires c κs = search needs
-
-between-requires-2 : tie.Need-between-requires-2
-between-requires-2 c κs = search needs
-
 returns : tie.Need-returns
 unfolding inBoundingBoxOf
 returns c =
@@ -25,4 +19,4 @@ returns-2 c =
     and-left _ _ (simp (c1 .between .ensures) at (c .if1 .left)) (c .if1 .left)
 
 pub in-bounding-box-spec : {M : Type 1} → statement M
-in-bounding-box-spec = tie.close (tie.spec between-requires between-requires-2 returns returns-2)
+in-bounding-box-spec = tie.close (tie.spec (λ c κs. search needs) (λ c κs. search needs) returns returns-2)

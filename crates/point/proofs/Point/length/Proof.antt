@@ -4,12 +4,6 @@ use Rattle.point.specs.Point.{lengthOf}
 use Rattle.point.proofs.Point.length.Statement.{statement}
 use Rattle.point.proofs.Point.length.Tie as tie
 
-dot-requires : tie.Need-dot-requires
-dot-requires c κs = search needs
-
-root-requires : tie.Need-root-requires
-root-requires c κs = search needs
-
 returns : tie.Need-returns
 unfolding lengthOf
 returns c =
@@ -17,4 +11,4 @@ returns c =
     simp (c .root .ensures, c1 .dot .ensures)
 
 pub length-spec : {M : Type 1} → statement M
-length-spec = tie.close (tie.spec dot-requires root-requires returns)
+length-spec = tie.close (tie.spec (λ c κs. search needs) (λ c κs. search needs) returns)

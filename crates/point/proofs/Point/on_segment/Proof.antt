@@ -5,15 +5,6 @@ use Rattle.point.proofs.Cases.{and-left, and-taken}
 use Rattle.point.proofs.Point.on_segment.Statement.{statement}
 use Rattle.point.proofs.Point.on_segment.Tie as tie
 
-in-bounding-box-requires : tie.Need-in-bounding-box-requires
-in-bounding-box-requires c κs = search needs
-
-side-requires : tie.Need-side-requires
-side-requires c κs = search needs
-
-same-side-requires : tie.Need-same-side-requires
-same-side-requires c κs = search needs
-
 returns : tie.Need-returns
 unfolding onSegmentOf
 returns c =
@@ -29,4 +20,4 @@ returns-2 c =
     and-left _ _ (simp (c1 .in-bounding-box .ensures) at (c .if1 .left)) (c .if1 .left)
 
 pub on-segment-spec : {M : Type 1} → statement M
-on-segment-spec = tie.close (tie.spec in-bounding-box-requires side-requires same-side-requires returns returns-2)
+on-segment-spec = tie.close (tie.spec (λ c κs. search needs) (λ c κs. search needs) (λ c κs. search needs) returns returns-2)

@@ -6,18 +6,6 @@ use Rattle.point.proofs.Cases.{left, taken}
 use Rattle.point.proofs.Point.side.Statement.{statement}
 use Rattle.point.proofs.Point.side.Tie as tie
 
-minus-requires : tie.Need-minus-requires
-minus-requires c κs = search needs
-
-minus-requires-2 : tie.Need-minus-requires-2
-minus-requires-2 c κs = search needs
-
-perp-dot-requires : tie.Need-perp-dot-requires
-perp-dot-requires c κs = search needs
-
-magnitude-requires : tie.Need-magnitude-requires
-magnitude-requires c κs = search needs
-
 returns : tie.Need-returns
 unfolding sideOf
 returns c =
@@ -50,4 +38,4 @@ returns-3 c =
     (left _ _ (simp (c3 .perp-dot .ensures, c4 .minus2 .ensures, c5 .minus .ensures) at (c .if2 .left)) refl)
 
 pub side-spec : {M : Type 1} → statement M
-side-spec = tie.close (tie.spec minus-requires minus-requires-2 perp-dot-requires magnitude-requires returns returns-2 returns-3)
+side-spec = tie.close (tie.spec (λ c κs. search needs) (λ c κs. search needs) (λ c κs. search needs) (λ c κs. search needs) returns returns-2 returns-3)

@@ -5,12 +5,6 @@ use Rattle.point.proofs.Cases.{or-left, or-taken}
 use Rattle.point.proofs.Segment.ends_at.Statement.{statement}
 use Rattle.point.proofs.Segment.ends_at.Tie as tie
 
-same-requires : tie.Need-same-requires
-same-requires c κs = search needs
-
-same-requires-2 : tie.Need-same-requires-2
-same-requires-2 c κs = search needs
-
 returns : tie.Need-returns
 unfolding endsAtOf
 returns c =
@@ -25,4 +19,4 @@ returns-2 c =
     or-left _ _ (simp (c2 .same .ensures) at (c1 .if1 .left)) (simp (c .same2 .ensures))
 
 pub ends-at-spec : {M : Type 1} → statement M
-ends-at-spec = tie.close (tie.spec same-requires same-requires-2 returns returns-2)
+ends-at-spec = tie.close (tie.spec (λ c κs. search needs) (λ c κs. search needs) returns returns-2)

@@ -4,15 +4,6 @@ use Rattle.records.specs.Records.{endRecord}
 use Rattle.records.proofs.Record.end.Statement.{statement}
 use Rattle.records.proofs.Record.end.Tie as tie
 
-to-bits-requires : tie.Need-to-bits-requires
-to-bits-requires c κs = search needs
-
-to-bits-requires-2 : tie.Need-to-bits-requires-2
-to-bits-requires-2 c κs = search needs
-
-to-bits-requires-3 : tie.Need-to-bits-requires-3
-to-bits-requires-3 c κs = search needs
-
 returns : tie.Need-returns
 unfolding endRecord endWords
 returns c =
@@ -23,4 +14,4 @@ returns c =
 pub end-spec : {M : Type 1} → statement M
 end-spec =
     tie.close
-    (tie.spec to-bits-requires to-bits-requires-2 to-bits-requires-3 returns)
+    (tie.spec (λ c κs. search needs) (λ c κs. search needs) (λ c κs. search needs) returns)

@@ -25,11 +25,13 @@ abbrev μ-loop : tie.MeasureT-loop
 -- the words all stand at their places, or not all: what the contract says
 whole : (c : tie.At-loop Inv-loop μ-loop)
     → every 8 (stands (c .before .before .before .args .route .now) (c .before .before .before .args .i * 32) (c .before .before .before .args .self .words))
-    ≡ sameBytes (recordAt (c .before .before .before .args .route .now) (c .before .before .before .args .i)) (recordBytes (c .before .before .before .args .self))
+    ≡ sameBytes (recordAt (c .before .before .before .args .route .now) (c .before .before .before .args .i))
+    (recordBytes (c .before .before .before .args .self))
 whole c =
-    let s = c .before .before .before in
+    let at-shared-slice-known = c .before .before in
+    let s = at-shared-slice-known .before in
     let n : length (s .args .self .words) ≡ 8 = words-length (s .args .self .words) (s .good .0 .1 .1 .0 .1 .0 .1) in
-    record-stands (s .args .self) (s .args .route .now) (s .args .i) (λ n. c .before .before .shared-slice-known .given n .fits) (s .pre) n
+    record-stands (s .args .self) (s .args .route .now) (s .args .i) (λ n. at-shared-slice-known .shared-slice-known .given n .fits) (s .pre) n
     (words-below (s .args .self .words) (s .good .0 .1 .1 .0 .0) (s .good .0 .1 .1 .0 .1 .1))
 
 loop-holds : tie.Need-loop-holds Inv-loop μ-loop

@@ -4,21 +4,6 @@ use Rattle.records.specs.Records.{stepRecord}
 use Rattle.records.proofs.Record.step.Statement.{statement}
 use Rattle.records.proofs.Record.step.Tie as tie
 
-kind-number-requires : tie.Need-kind-number-requires
-kind-number-requires c κs = search needs
-
-to-bits-requires : tie.Need-to-bits-requires
-to-bits-requires c κs = search needs
-
-to-bits-requires-2 : tie.Need-to-bits-requires-2
-to-bits-requires-2 c κs = search needs
-
-to-bits-requires-3 : tie.Need-to-bits-requires-3
-to-bits-requires-3 c κs = search needs
-
-to-bits-requires-4 : tie.Need-to-bits-requires-4
-to-bits-requires-4 c κs = search needs
-
 returns : tie.Need-returns
 unfolding stepRecord stepWords
 returns c =
@@ -31,4 +16,4 @@ returns c =
 pub step-spec : {M : Type 1} → statement M
 step-spec =
     tie.close
-    (tie.spec kind-number-requires to-bits-requires to-bits-requires-2 to-bits-requires-3 to-bits-requires-4 returns)
+    (tie.spec (λ c κs. search needs) (λ c κs. search needs) (λ c κs. search needs) (λ c κs. search needs) (λ c κs. search needs) returns)

@@ -50,14 +50,15 @@ loop-less c = omega arith
 
 loop-again : tie.Need-loop-again Inv-loop μ-loop
 loop-again c =
-    let l = c .before .before .before .before .before in
+    let at-write = c .before .before in
+    let l = at-write .before .before .before in
     let s = l .before .before .before in
     let ws = s .args .self .words in
     let at = s .args .i * 32 in
     let n : length ws ≡ 8 = words-length ws (s .good .0 .1 .1 .0 .1 .0 .1) in
     let k = l .loop .k in
-    let e : c .before .before .write .last .0 ≡ sets (s .args .out .now) at (wordsBytes (take (k + 1) ws)) =
-    c .before .before .write .ensures
+    let e : at-write .write .last .0 ≡ sets (s .args .out .now) at (wordsBytes (take (k + 1) ws)) =
+    at-write .write .ensures
     ∙ ap (λ (x : List ℕ). putWord x (at + k * 4) (getD ws k 0)) (l .loop .inv .2)
     ∙ word-more (s .args .out .now) ws at k (omega arith)
     ∙ ap (λ (x : ℕ). sets (s .args .out .now) at (wordsBytes (take x ws))) (sym (add-one k)) in

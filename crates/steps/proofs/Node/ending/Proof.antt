@@ -3,42 +3,12 @@ use Rattle.steps.specs.World.{endingOf}
 use Rattle.steps.proofs.Node.ending.Statement.{statement}
 use Rattle.steps.proofs.Node.ending.Tie as tie
 
-add-t8 : tie.Need-add-t8
-add-t8 c = search needs
-
-distance-requires : tie.Need-distance-requires
-distance-requires c κs = search needs
-
 returns : tie.Need-returns
 unfolding endingOf
 returns c =
     let c1 = c .before in
     let c3 = c1 .before .before in
     rw (c3 .if1 .taken, ← c1 .distance .ensures)
-
-turning-point-requires : tie.Need-turning-point-requires
-turning-point-requires c κs = search needs
-
-enum-known-turn : tie.Need-enum-known-turn
-enum-known-turn c = search needs
-
-add-t12 : tie.Need-add-t12
-add-t12 c = search needs
-
-distance-requires-2 : tie.Need-distance-requires-2
-distance-requires-2 c κs = search needs
-
-distance-requires-3 : tie.Need-distance-requires-3
-distance-requires-3 c κs = search needs
-
-enum-told : tie.Need-enum-told
-enum-told c = search needs
-
-add-t17 : tie.Need-add-t17
-add-t17 c = search needs
-
-distance-requires-4 : tie.Need-distance-requires-4
-distance-requires-4 c κs = search needs
 
 returns-2 : tie.Need-returns-2
 unfolding endingOf
@@ -61,4 +31,5 @@ returns-3 c =
 pub ending-spec : {M : Type 1} → statement M
 ending-spec =
     tie.close
-    (tie.spec add-t8 distance-requires returns turning-point-requires enum-known-turn add-t12 distance-requires-2 distance-requires-3 enum-told add-t17 distance-requires-4 returns-2 returns-3)
+    (tie.spec (λ c. search needs) (λ c κs. search needs) returns (λ c κs. search needs) (λ c. search needs) (λ c. search needs) (λ c κs. search needs)
+    (λ c κs. search needs) (λ c. search needs) (λ c. search needs) (λ c κs. search needs) returns-2 returns-3)

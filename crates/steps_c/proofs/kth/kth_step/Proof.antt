@@ -3,121 +3,137 @@
 use denote.Ref.{now}
 use Prim.Native.Nat.{ℕ, _<_}
 use mathlib.Core.Path.{_≡_, sym, _∙_, subst}
+use mathlib.Core.Bool.{false}
 use borrow.Author.Needs.{needs}
 use borrow.Author.Tests.{not-true, not-false}
 use Rattle.walk.specs.declared.round.Round.{Round}
-use Rattle.stored.specs.Stored.{floorOf, polygonAt, cornerCount}
+use Rattle.walk.specs.Turns.{isOverOf}
+use Rattle.plan.specs.Plan.{slotsIn, isMarked}
+use Rattle.stored.specs.Stored.{recordIn, verticesOf, floorIn}
 use Rattle.view.specs.View.{viewOf}
-use Rattle.going.specs.Going.{Yielded, Goes}
-use Rattle.going.proofs.Rounds.{edgesLeft, begin-goes, next-goes, turning, fewer-left, on-yields, walked-as-on}
-use Rattle.going.proofs.Stepping.{viewed-polygon, edge-inside}
+use Rattle.going.specs.Going.{Yielded, Turning, Goes}
+use Rattle.going.proofs.Rounds.{edgesLeft, begin-goes, next-goes, turning, fewer-left, on-yields}
+use Rattle.going.proofs.Stepping.{polygon-lies, viewed-lies, edge-inside}
 use Rattle.steps_c.proofs.Counting.{none-in-goal, Counted-in, counting-begins, counting-ends, counting-finds, counting-goes-on}
 use Rattle.steps_c.proofs.kth.kth_step.Statement.{statement}
 use Rattle.steps_c.proofs.kth.kth_step.Tie as tie
 
 abbrev Inv-loop : tie.InvT-loop
-Inv-loop vertices polygons marks goal node k view round₀ left₀ round left =
-    (view ≡ viewOf (floorOf 8 vertices polygons) node)
-    × Goes (polygonAt 8 polygons (node .polygon)) node round
-    × Counted-in (floorOf 8 vertices polygons) goal node k round left
+Inv-loop vertices polygons plan goal node k view round₀ left₀ round left =
+    (view ≡ viewOf (verticesOf vertices) (isMarked plan) node)
+    × Goes (recordIn plan polygons (node .polygon)) node round
+    × Counted-in (floorIn plan vertices polygons) goal node k round left
 
 abbrev μ-loop : tie.MeasureT-loop
-μ-loop vertices polygons marks goal node k view round₀ left₀ round left = edgesLeft round
+μ-loop vertices polygons plan goal node k view round₀ left₀ round left = edgesLeft round
+
+-- ---- places
+
+abbrev start : tie.At-loop Inv-loop μ-loop → tie.Start Inv-loop μ-loop
+start l = l .before .before .before .before .before .before .before
+
+abbrev looping : tie.Then2 Inv-loop μ-loop → tie.At-loop Inv-loop μ-loop
+looping c = c .before .before
+
+-- the round is on
+goes-on : (c : tie.Then2 Inv-loop μ-loop) → isOverOf (looping c .loop .round) ≡ false
+goes-on c = sym (c .before .is-over .ensures) ∙ not-true _ (c .if2 .taken)
+
+turns : (c : tie.Then2 Inv-loop μ-loop) → let s = start (looping c) in Turning (now (s .args .plan)) (now (s .args .polygons)) (s .args .node) (looping c .loop .round)
+turns c = let s = start (looping c) in turning _ _ _ (s .args .node) (s .pre .1) (looping c .loop .round) (looping c .loop .inv .1) (goes-on c)
+
+-- ---- before the loop
 
 returns : tie.Need-returns Inv-loop μ-loop
-returns c =
-    let s = c .before .before .before .before in
-    sym (none-in-goal (floorOf 8 (now (s .args .vertices)) (now (s .args .polygons))) (s .args .goal) (s .args .node) (s .args .k) (c .if1 .taken))
+returns c = let s = c .before .before .before .before in sym (none-in-goal _ (s .args .goal) (s .args .node) (s .args .k) (c .if1 .taken))
 
 new-requires : tie.Need-new-requires Inv-loop μ-loop
 new-requires c κs =
     let s = c .before .before .before .before in
-    (s .pre .0 .first-listed, s .pre .0 .second-listed, s .pre .1 .0, s .pre .1 .1)
+    (s .pre .0 .vertices-planned, s .pre .1 .first-listed, s .pre .1 .second-listed)
 
 begin-requires : tie.Need-begin-requires Inv-loop μ-loop
-begin-requires c κs =
-    let s = c .before .before .before .before .before in
-    (s .pre .0 .listed .few, s .pre .0 .listed .listed)
+begin-requires c κs = let s = c .before .before .before .before .before in polygon-lies _ _ _ (s .args .node) (s .pre .1)
 
 loop-holds : tie.Need-loop-holds Inv-loop μ-loop
 loop-holds c =
-    let s = c .before .before .before .before .before .before in (
+    let s = c .before .before .before .before .before .before in
+    let vs = now (s .args .vertices) in
+    let ps = now (s .args .polygons) in
+    let plan = now (s .args .plan) in (
       c .before .new .ensures,
-      subst (Goes (polygonAt 8 (now (s .args .polygons)) (s .args .node .polygon)) (s .args .node)) (sym (c .begin .ensures)) (begin-goes 8 (now (s .args .vertices)) (now (s .args .polygons)) (s .args .node) (s .pre .0)),
-      subst (λ (r : Round). Counted-in (floorOf 8 (now (s .args .vertices)) (now (s .args .polygons))) (s .args .goal) (s .args .node) (s .args .k) r (s .args .k)) (sym (c .begin .ensures)) (counting-begins 8 (now (s .args .vertices)) (now (s .args .polygons)) (s .args .node) (s .pre .0) (s .args .goal) (s .args .k) (c .before .before .if1 .left)),
+      subst (Goes (recordIn plan ps (s .args .node .polygon)) (s .args .node)) (sym (c .begin .ensures)) (begin-goes plan vs ps (s .args .node) (s .pre .1)),
+      subst (λ (r : Round). Counted-in (floorIn plan vs ps) (s .args .goal) (s .args .node) (s .args .k) r (s .args .k)) (sym (c .begin .ensures))
+          (counting-begins plan vs ps (s .args .node) (s .pre .1) (s .args .goal) (s .args .k) (c .before .before .if1 .left)),
     )
 
-is-over-requires : tie.Need-is-over-requires Inv-loop μ-loop
-is-over-requires c κs = c .loop .inv .1 .taken-in
+-- ---- a turn
 
 edge-requires : tie.Need-edge-requires Inv-loop μ-loop
-edge-requires c κs =
-    let l = c .before .before in
-    let s = l .before .before .before .before .before .before .before in
-    let on = sym (c .before .is-over .ensures) ∙ not-true _ (c .if2 .taken) in
-    let turns = turning 8 (now (s .args .vertices)) (now (s .args .polygons)) (s .args .node) (s .pre .0) (l .loop .round) (l .loop .inv .1) on in
-    (turns .entry-in, turns .taken-in)
+edge-requires c κs = (turns c .entry-in, turns c .taken-in)
 
-walk-at-requires : tie.Need-walk-at-requires Inv-loop μ-loop
-walk-at-requires c κs =
-    let l = c .before .before .before in
-    let s = l .before .before .before .before .before .before .before in
-    let on = sym (c .before .before .is-over .ensures) ∙ not-true _ (c .before .if2 .taken) in
-    let turns = turning 8 (now (s .args .vertices)) (now (s .args .polygons)) (s .args .node) (s .pre .0) (l .loop .round) (l .loop .inv .1) on in
-    (s .pre .0, subst (λ (n : ℕ). n < cornerCount (polygonAt 8 (now (s .args .polygons)) (s .args .node .polygon))) (sym (c .edge .ensures)) (turns .edge-in))
+walk-requires : tie.Need-walk-requires Inv-loop μ-loop
+walk-requires c κs = (start (looping (c .before)) .pre .1, turns (c .before))
 
 count-on-edge-requires : tie.Need-count-on-edge-requires Inv-loop μ-loop
 count-on-edge-requires c κs =
-    let l = c .before .before .before .before in
-    let s = l .before .before .before .before .before .before .before in
-    let on = sym (c .before .before .before .is-over .ensures) ∙ not-true _ (c .before .before .if2 .taken) in (
-      (
-        subst (λ (n : ℕ). n < 8) (sym (c .before .edge .ensures)) (edge-inside 8 (now (s .args .vertices)) (now (s .args .polygons)) (s .args .node) (s .pre .0) (l .loop .round) (l .loop .inv .1) on),
-        viewed-polygon (floorOf 8 (now (s .args .vertices)) (now (s .args .polygons))) (s .args .node) _ _ (l .loop .inv .0) (s .pre .0 .listed .listed),
-      ),
-      subst Yielded (sym (walked-as-on (floorOf 8 (now (s .args .vertices)) (now (s .args .polygons))) (s .args .node) (l .loop .round) (c .before .edge .ensures) (c .walk-at .ensures))) (on-yields (floorOf 8 (now (s .args .vertices)) (now (s .args .polygons))) (s .args .node) (l .loop .round)),
+    let at-if2 = c .before .before in
+    let l = looping at-if2 in
+    let s = start l in (
+      viewed-lies _ _ _ (s .args .node) (s .pre .1) (s .pre .0) _ (l .loop .inv .0),
+      subst (λ (n : ℕ). n < slotsIn (now (s .args .plan))) (sym (c .before .edge .ensures))
+          (edge-inside _ _ _ (s .args .node) (s .pre .1) (l .loop .round) (l .loop .inv .1) (goes-on at-if2)),
+      subst Yielded (sym (c .walk .ensures)) (on-yields _ (s .args .node) (l .loop .round)),
     )
-
-enum-known-counted : tie.Need-enum-known-counted Inv-loop μ-loop
-enum-known-counted c = search needs
 
 returns-2 : tie.Need-returns-2 Inv-loop μ-loop
 returns-2 c =
-    let l = c .before .before .before .before .before .before .before .before in
-    let s = l .before .before .before .before .before .before .before in
-    let on = sym (c .before .before .before .before .before .before .before .is-over .ensures) ∙ not-true _ (c .before .before .before .before .before .before .if2 .taken) in
-    sym (counting-finds 8 (now (s .args .vertices)) (now (s .args .polygons)) (s .args .node) (s .pre .0) (s .args .goal) (s .args .k) (l .loop .round) (l .loop .left) (l .loop .inv .2) (l .loop .inv .1) on _ (l .loop .inv .0) _ (walked-as-on (floorOf 8 (now (s .args .vertices)) (now (s .args .polygons))) (s .args .node) (l .loop .round) (c .before .before .before .before .before .edge .ensures) (c .before .before .before .before .walk-at .ensures)) _ (c .before .before .before .before .before .edge .ensures) _ (c .before .before .before .count-on-edge .ensures) _ (c .before .counted .given .1))
-
-enum-known-counted-2 : tie.Need-enum-known-counted-2 Inv-loop μ-loop
-enum-known-counted-2 c = search needs
+    let at-count = c .before .before .before in
+    let at-walk = at-count .before in
+    let at-edge = at-walk .before in
+    let l = looping (at-edge .before) in
+    let s = start l in
+    sym (counting-finds _ _ _ (s .args .node) (s .pre .1) (s .args .goal) (s .args .k) (l .loop .round) (l .loop .left) (l .loop .inv .2) (s .pre .0)
+    (l .loop .inv .1) (goes-on (at-edge .before)) _ (l .loop .inv .0) _ (at-walk .walk .ensures) _ (at-edge .edge .ensures) _
+    (at-count .count-on-edge .ensures) _ (c .before .counted .given .1))
 
 next-requires : tie.Need-next-requires Inv-loop μ-loop
-next-requires c κs = c .before .before .before .before .before .before .before .before .loop .inv .1 .taken-in
+next-requires c κs = looping (c .before .before .before .before .before .before) .loop .inv .1 .taken-in
 
 loop-less : tie.Need-loop-less Inv-loop μ-loop
 loop-less c =
-    let l = c .before .before .before .before .before .before .before .before .before in
-    let s = l .before .before .before .before .before .before .before in
-    let on = sym (c .before .before .before .before .before .before .before .before .is-over .ensures) ∙ not-true _ (c .before .before .before .before .before .before .before .if2 .taken) in
-    subst (λ (r : Round). edgesLeft r < edgesLeft (l .loop .round)) (sym (c .next .ensures)) (fewer-left 8 (now (s .args .vertices)) (now (s .args .polygons)) (s .args .node) (s .pre .0) (l .loop .round) (l .loop .inv .1) on _)
+    let at-if2 = c .before .before .before .before .before .before .before in
+    let l = looping at-if2 in
+    let s = start l in
+    subst (λ (r : Round). edgesLeft r < edgesLeft (l .loop .round)) (sym (c .next .ensures))
+    (fewer-left _ _ _ (s .args .node) (s .pre .1) (l .loop .round) (l .loop .inv .1) (goes-on at-if2) _)
 
 loop-again : tie.Need-loop-again Inv-loop μ-loop
 loop-again c =
-    let l = c .before .before .before .before .before .before .before .before .before in
-    let s = l .before .before .before .before .before .before .before in
-    let on = sym (c .before .before .before .before .before .before .before .before .is-over .ensures) ∙ not-true _ (c .before .before .before .before .before .before .before .if2 .taken) in (
+    let at-counted = c .before .before in
+    let at-count = at-counted .before .before in
+    let at-walk = at-count .before in
+    let at-edge = at-walk .before in
+    let l = looping (at-edge .before) in
+    let s = start l in
+    let on = goes-on (at-edge .before) in (
       l .loop .inv .0,
-      subst (Goes (polygonAt 8 (now (s .args .polygons)) (s .args .node .polygon)) (s .args .node)) (sym (c .next .ensures)) (next-goes 8 (now (s .args .vertices)) (now (s .args .polygons)) (s .args .node) (s .pre .0) (l .loop .round) (l .loop .inv .1) on _),
-      counting-goes-on 8 (now (s .args .vertices)) (now (s .args .polygons)) (s .args .node) (s .pre .0) (s .args .goal) (s .args .k) (l .loop .round) (l .loop .left) (l .loop .inv .2) (l .loop .inv .1) on _ (l .loop .inv .0) _ (walked-as-on (floorOf 8 (now (s .args .vertices)) (now (s .args .polygons))) (s .args .node) (l .loop .round) (c .before .before .before .before .before .before .edge .ensures) (c .before .before .before .before .before .walk-at .ensures)) _ (c .before .before .before .before .before .before .edge .ensures) _ (c .before .before .before .before .count-on-edge .ensures) _ (c .before .before .counted2 .given .1) _ (c .next .ensures),
+      subst (Goes (recordIn (now (s .args .plan)) (now (s .args .polygons)) (s .args .node .polygon)) (s .args .node)) (sym (c .next .ensures))
+          (next-goes _ _ _ (s .args .node) (s .pre .1) (l .loop .round) (l .loop .inv .1) on _),
+      counting-goes-on _ _ _ (s .args .node) (s .pre .1) (s .args .goal) (s .args .k) (l .loop .round) (l .loop .left) (l .loop .inv .2) (s .pre .0)
+          (l .loop .inv .1) on _ (l .loop .inv .0) _ (at-walk .walk .ensures) _ (at-edge .edge .ensures) _ (at-count .count-on-edge .ensures) _
+          (at-counted .counted2 .given .1) _ (c .next .ensures),
     )
 
 returns-3 : tie.Need-returns-3 Inv-loop μ-loop
 returns-3 c =
     let l = c .before .before in
-    let s = l .before .before .before .before .before .before .before in
-    sym (counting-ends 8 (now (s .args .vertices)) (now (s .args .polygons)) (s .args .node) (s .pre .0) (s .args .goal) (s .args .k) (l .loop .round) (l .loop .left) (l .loop .inv .2) (sym (c .before .is-over .ensures) ∙ not-false _ (c .if2 .left)))
+    let s = start l in
+    sym (counting-ends _ _ _ (s .args .node) (s .pre .1) (s .args .goal) (s .args .k) (l .loop .round) (l .loop .left) (l .loop .inv .2)
+    (sym (c .before .is-over .ensures) ∙ not-false _ (c .if2 .left)))
 
 pub kth-step-spec : {M : Type 1} → statement M
 kth-step-spec =
     tie.close
-    (tie.spec Inv-loop μ-loop returns new-requires begin-requires loop-holds is-over-requires edge-requires walk-at-requires count-on-edge-requires enum-known-counted returns-2 enum-known-counted-2 next-requires loop-less loop-again returns-3)
+    (tie.spec Inv-loop μ-loop returns new-requires begin-requires loop-holds (λ c κs. c .loop .inv .1 .taken-in) edge-requires walk-requires
+    count-on-edge-requires (λ c. search needs) returns-2 (λ c. search needs) next-requires loop-less loop-again returns-3)

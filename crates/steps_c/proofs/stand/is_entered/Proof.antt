@@ -11,15 +11,6 @@ returns : tie.Need-returns
 unfolding isEntered
 returns c = rw (c .if1 .taken) refl
 
-cast-p : tie.Need-cast-p
-cast-p c = search needs
-
-corner-count-requires : tie.Need-corner-count-requires
-corner-count-requires c κs = search needs
-
-place-of-requires : tie.Need-place-of-requires
-place-of-requires c κs = search needs
-
 returns-2 : tie.Need-returns-2
 unfolding isEntered
 returns-2 c =
@@ -30,4 +21,4 @@ returns-2 c =
 pub is-entered-spec : {M : Type 1} → statement M
 is-entered-spec =
     tie.close
-    (tie.spec returns cast-p corner-count-requires place-of-requires returns-2)
+    (tie.spec returns (λ c. search needs) (λ c κs. search needs) (λ c κs. search needs) returns-2)

@@ -3,15 +3,6 @@ use Rattle.view.specs.View.{allowsOf}
 use Rattle.view.proofs.View.allows.Statement.{statement}
 use Rattle.view.proofs.View.allows.Tie as tie
 
-enum-told : tie.Need-enum-told
-enum-told c = search needs
-
-enum-told-2 : tie.Need-enum-told-2
-enum-told-2 c = search needs
-
-enum-told-3 : tie.Need-enum-told-3
-enum-told-3 c = search needs
-
 returns : tie.Need-returns
 unfolding allowsOf
 returns c = rw (c .enum-told .given .1)
@@ -31,4 +22,4 @@ returns-3 c =
 pub allows-spec : {M : Type 1} → statement M
 allows-spec =
     tie.close
-    (tie.spec enum-told enum-told-2 enum-told-3 returns returns-2 returns-3)
+    (tie.spec (λ c. search needs) (λ c. search needs) (λ c. search needs) returns returns-2 returns-3)

@@ -11,9 +11,6 @@ returns : tie.Need-returns
 unfolding clipsBy
 returns c = rw (c .if1 .taken)
 
-keeps-requires : tie.Need-keeps-requires
-keeps-requires c κs = search needs
-
 -- from a node that is not the seed
 not-seed : (view : View) (kind : SuccessorType) → view .seed ≡ false → keepsBy view kind ≡ clipsBy view kind
 unfolding clipsBy
@@ -27,4 +24,4 @@ returns-2 c =
 pub clips-spec : {M : Type 1} → statement M
 clips-spec =
     tie.close
-    (tie.spec returns keeps-requires returns-2)
+    (tie.spec returns (λ c κs. search needs) returns-2)

@@ -3,15 +3,6 @@ use Rattle.view.specs.View.{neighbourBy}
 use Rattle.view.proofs.View.neighbour.Statement.{statement}
 use Rattle.view.proofs.View.neighbour.Tie as tie
 
-allows-requires : tie.Need-allows-requires
-allows-requires c κs = search needs
-
-cast-neighbour : tie.Need-cast-neighbour
-cast-neighbour c = search needs
-
-neighbour-requires : tie.Need-neighbour-requires
-neighbour-requires c κs = search needs
-
 returns : tie.Need-returns
 unfolding neighbourBy
 returns c =
@@ -28,4 +19,4 @@ returns-2 c =
 pub neighbour-spec : {M : Type 1} → statement M
 neighbour-spec =
     tie.close
-    (tie.spec allows-requires cast-neighbour neighbour-requires returns returns-2)
+    (tie.spec (λ c κs. search needs) (λ c. search needs) (λ c κs. search needs) returns returns-2)

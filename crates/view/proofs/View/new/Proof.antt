@@ -1,42 +1,39 @@
 use denote.Ref.{now}
 use mathlib.Core.Path.{_≡_}
 use mathlib.Core.Bool.{Bool}
+use Prim.Native.Nat.{ℕ}
+use mathlib.Core.List.{List}
+use Rattle.point.specs.declared.Point.{Point}
 use Rattle.point.specs.Point.{sameOf}
 use borrow.Author.Needs.{needs}
 use Rattle.cone.specs.declared.Cone.{Cone}
 use Rattle.cone.specs.Cone.{coneOf}
-use Rattle.stored.specs.Stored.{Floor, floorOf}
+use Rattle.plan.specs.Plan.{isMarked}
+use Rattle.stored.specs.Stored.{verticesOf}
 use Rattle.steps.specs.declared.Node.{Node}
 use Rattle.view.specs.declared.Corner.{Corner}
 use Rattle.view.specs.View.{cornerOn, viewOf}
 use Rattle.view.proofs.View.new.Statement.{statement}
 use Rattle.view.proofs.View.new.Tie as tie
 
-new-requires : tie.Need-new-requires
-new-requires c κs = search needs
-
-new-requires-2 : tie.Need-new-requires-2
-new-requires-2 c κs = search needs
-
-same-requires : tie.Need-same-requires
-same-requires c κs = search needs
-
-new-requires-3 : tie.Need-new-requires-3
-new-requires-3 c κs = search needs
-
 -- the view is made of its parts
-module _ (f : Floor) (node : Node) {right left : Corner} {keeps : Bool} {cone : Cone} where
-  of-parts : right ≡ cornerOn f (node .first) (node .interval .0) (node .root) → left ≡ cornerOn f (node .second) (node .interval .1) (node .root) → keeps ≡ sameOf (node .root) (node .root) → cone ≡ coneOf (node .root) (node .interval)
-      → record { seed = node .seed; polygon = node .polygon; keeps = keeps; cone = cone; right = right; left = left } ≡ viewOf f node
+module _ (vs : List Point) (turns : ℕ → Bool) (node : Node) {right left : Corner} {keeps : Bool} {cone : Cone} where
+  of-parts : right ≡ cornerOn vs turns (node .first) (node .interval .0) (node .root)
+      → left ≡ cornerOn vs turns (node .second) (node .interval .1) (node .root)
+      → keeps ≡ sameOf (node .root) (node .root) → cone ≡ coneOf (node .root) (node .interval)
+      → record { seed = node .seed; polygon = node .polygon; keeps = keeps; cone = cone; right = right; left = left } ≡ viewOf vs turns node
   unfolding viewOf
   of-parts r l s k = rw (r, l, s, k)
 
 returns : tie.Need-returns
 returns c =
-    let s = c .before .before .before .before .before .before .before .before in
-    of-parts (floorOf (s .args .slots) (now (s .args .vertices)) (now (s .args .polygons))) (s .args .node) (c .before .before .before .new .ensures) (c .before .before .new2 .ensures) (c .before .same .ensures) (c .new3 .ensures)
+    let at-new2 = c .before .before in
+    let at-new = at-new2 .before in
+    let s = at-new .before .before .before .before in
+    of-parts (verticesOf (now (s .args .vertices))) (isMarked (now (s .args .plan))) (s .args .node) (at-new .new .ensures) (at-new2 .new2 .ensures)
+    (c .before .same .ensures) (c .new3 .ensures)
 
 pub new-spec : {M : Type 1} → statement M
 new-spec =
     tie.close
-    (tie.spec new-requires new-requires-2 same-requires new-requires-3 returns)
+    (tie.spec (λ c κs. search needs) (λ c κs. search needs) (λ c κs. search needs) (λ c κs. search needs) returns)

@@ -5,20 +5,11 @@ use Rattle.view.specs.View.{stepBy}
 use Rattle.view.proofs.View.step.Statement.{statement}
 use Rattle.view.proofs.View.step.Tie as tie
 
-neighbour-requires : tie.Need-neighbour-requires
-neighbour-requires c κs = search needs
-
 returns : tie.Need-returns
 unfolding stepBy
 returns c =
     let c1 = c .before in
     rw (← c1 .neighbour .ensures, eq-eqb _ _ (c .if1 .taken))
-
-clips-requires : tie.Need-clips-requires
-clips-requires c κs = search needs
-
-over-requires : tie.Need-over-requires
-over-requires c κs = search needs
 
 returns-2 : tie.Need-returns-2
 unfolding stepBy
@@ -31,4 +22,4 @@ returns-2 c =
 pub step-spec : {M : Type 1} → statement M
 step-spec =
     tie.close
-    (tie.spec neighbour-requires returns clips-requires over-requires returns-2)
+    (tie.spec (λ c κs. search needs) returns (λ c κs. search needs) (λ c κs. search needs) returns-2)

@@ -5,18 +5,6 @@ use Rattle.walk.specs.Turns.{edgeNumberOf}
 use Rattle.walk.proofs.round.Round.edge.Statement.{statement}
 use Rattle.walk.proofs.round.Round.edge.Tie as tie
 
-sub-left : tie.Need-sub-left
-sub-left c = search needs
-
-sub-left-2 : tie.Need-sub-left-2
-sub-left-2 c = search needs
-
-add-result : tie.Need-add-result
-add-result c = search needs
-
-add-result-2 : tie.Need-add-result-2
-add-result-2 c = search needs
-
 returns : tie.Need-returns
 unfolding edgeNumberOf
 returns c = up-to-the-last _ _ _ (c .before .before .if1 .taken)
@@ -26,4 +14,4 @@ unfolding edgeNumberOf
 returns-2 c = from-the-first _ _ _ (c .before .before .before .before .pre .0) (c .before .if1 .left)
 
 pub edge-spec : {M : Type 1} → statement M
-edge-spec = tie.close (tie.spec sub-left sub-left-2 add-result add-result-2 returns returns-2)
+edge-spec = tie.close (tie.spec (λ c. search needs) (λ c. search needs) (λ c. search needs) (λ c. search needs) returns returns-2)

@@ -5,12 +5,9 @@ use Rattle.walk.specs.Turns.{isOverOf}
 use Rattle.walk.proofs.round.Round.is_over.Statement.{statement}
 use Rattle.walk.proofs.round.Round.is_over.Tie as tie
 
-add-result : tie.Need-add-result
-add-result c = search needs
-
 returns : tie.Need-returns
 unfolding isOverOf
 returns c = refl
 
 pub is-over-spec : {M : Type 1} → statement M
-is-over-spec = tie.close (tie.spec add-result returns)
+is-over-spec = tie.close (tie.spec (λ c. search needs) returns)

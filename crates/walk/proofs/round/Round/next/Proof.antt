@@ -5,12 +5,9 @@ use Rattle.walk.specs.Turns.{nextOf}
 use Rattle.walk.proofs.round.Round.next.Statement.{statement}
 use Rattle.walk.proofs.round.Round.next.Tie as tie
 
-add-t3 : tie.Need-add-t3
-add-t3 c = search needs
-
 returns : tie.Need-returns
 unfolding nextOf
 returns c = refl
 
 pub next-spec : {M : Type 1} → statement M
-next-spec = tie.close (tie.spec add-t3 returns)
+next-spec = tie.close (tie.spec (λ c. search needs) returns)

@@ -1,0 +1,2 @@
+-- What the look at a floor tells C.
+pub mod Marks

@@ -1,0 +1,2 @@
+-- The laws of the plan.
+pub mod Laws

@@ -1,2 +1,0 @@
--- What is told beside a number.
-pub mod Written

@@ -1,0 +1,2 @@
+-- Document 01's whole example.
+pub mod Example
