@@ -2,3 +2,4 @@
 pub mod Exact
 pub mod Looked
 pub mod Planned
+pub mod Asking

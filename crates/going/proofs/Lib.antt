@@ -4,3 +4,4 @@ pub mod Rounds
 pub mod Left
 pub mod Stepping
 pub mod Stands
+pub mod Parts

@@ -17,7 +17,7 @@ use Rattle.route.specs.World.{World, Lawful}
 use Rattle.route.specs.Judge.{judgeOf}
 use Rattle.route.proofs.Verdicts.{judged-exactly}
 use Rattle.steps.specs.declared.Node.{Node}
-use Rattle.steps.specs.World.{worldIn, worldOf}
+use Rattle.steps.specs.World.{tripOf, worldIn, worldOf}
 use Rattle.steps.proofs.World.{lawful}
 use Rattle.judge.specs.declared.Verdict.{Verdict}
 use Rattle.judge.specs.declared.Verdict.the-variants.{Refused, Read}
@@ -39,7 +39,7 @@ module _ (s : ℕ) (vs ps question : List ℕ) where
 
   pub world-is-lawful : Bytes ps → Lawful w
   unfolding worldOf
-  world-is-lawful bytes = lawful s vs ps bytes (questionOf question) from to
+  world-is-lawful bytes = lawful s vs ps bytes (tripOf (questionOf question) from to)
 
   -- start and goal inside, as a look finds them
   looks-inside : Inside s vs ps question → lookOf s vs ps question ≡ LookInside from to
@@ -73,12 +73,12 @@ module _ (s : ℕ) (vs ps question : List ℕ) where
       unfolding verdictOf worldOf
       given = go (lookOf s vs ps question) refl
         where
-          go : (l : Look) → lookOf s vs ps question ≡ l → Case s vs ps question route (judgeIf l (λ a b. judgeOf (worldIn f (questionOf question) a b) route))
+          go : (l : Look) → lookOf s vs ps question ≡ l → Case s vs ps question route (judgeIf l (λ a b. judgeOf (worldIn f (tripOf (questionOf question) a b)) route))
           go (LookRefused r) e = each-exactly s vs ps question (LookRefused r) .0 e
           go (LookInside a b) e =
               let h = inside-looks a b e in
-              let same : judgeOf w route ≡ judgeOf (worldIn f (questionOf question) a b) route = rw (h .1, h .2) in
-              (h .0, judged-exactly (world-is-lawful bytes) route (judgeOf (worldIn f (questionOf question) a b) route) .0 same)
+              let same : judgeOf w route ≡ judgeOf (worldIn f (tripOf (questionOf question) a b)) route = rw (h .1, h .2) in
+              (h .0, judged-exactly (world-is-lawful bytes) route (judgeOf (worldIn f (tripOf (questionOf question) a b)) route) .0 same)
 
       found : (v : Verdict) → Case s vs ps question route v → verdictOf s vs ps question route ≡ v
       unfolding verdictOf

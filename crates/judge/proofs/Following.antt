@@ -8,7 +8,9 @@ use mathlib.Core.List.{List}
 use lib.ListN.{length}
 use Rattle.point.specs.declared.Point.{Point}
 use Rattle.point.specs.Point.{sameOf}
-use Rattle.stored.specs.Stored.{Floor, floorOf}
+use Rattle.plan.specs.Plan.{polygonCountIn}
+use Rattle.stored.specs.Stored.{Floor, verticesOf, floorIn}
+use Rattle.edges.specs.Ground.{Ground}
 use Rattle.route.specs.declared.Step.{Step}
 use Rattle.route.specs.declared.Judged.the-variants.{NotStep}
 use Rattle.route.specs.declared.Sought.the-variants.{Found, Missing}
@@ -18,12 +20,12 @@ use Rattle.route.specs.Judge.{lengthRight, sameBytes, findStep, judgeFrom, judg
 use Rattle.route.proofs.Find.{find-found}
 use Rattle.route.proofs.Turns.{length-gives, begins, goes-on-to, stops-at, ends-at}
 use Rattle.steps.specs.declared.Node.{Node}
+use Rattle.steps.specs.declared.Trip.{Trip}
 use Rattle.steps.specs.Steps.{rootAfter, stepsFrom, seedNode, enter}
 use Rattle.steps.specs.World.{worldIn}
 use Rattle.going.specs.Going.{Stands}
 use Rattle.going.proofs.Stands.{seed-stands, enter-stands}
-use Rattle.judge.specs.Ready.{Ready}
-use Rattle.judge.specs.Verdict.{asked, endOf}
+use Rattle.judge.specs.Verdict.{endOf}
 use Rattle.judge.proofs.Ending.{end-in-world}
 
 -- ---- how many points a node has
@@ -33,9 +35,9 @@ unfolding seedNode
 seed-points start p = refl
 
 -- a step adds a point at most
-pub few-points : (f : Floor) (node : Node) (t : Step) → enter f node t .points ≤ node .points + 1
+pub few-points : (vertices : List Point) (node : Node) (t : Step) → enter vertices node t .points ≤ node .points + 1
 unfolding enter
-few-points f node t = go (sameOf (rootAfter f node (t .kind)) (node .root))
+few-points vertices node t = go (sameOf (rootAfter vertices node (t .kind)) (node .root))
   where
     go : (b : Bool) → cond b (node .points) (node .points + 1) ≤ node .points + 1
     go true = omega arith
@@ -43,67 +45,65 @@ few-points f node t = go (sameOf (rootAfter f node (t .kind)) (node .root))
 
 -- ---- what the loop keeps
 
--- The records before record i lead to this node, which stands on the floor and has fewer points than there are records; what is still to be judged is the rest, wherever
--- the start is.
-pub record Follows (s : ℕ) (vs ps : List ℕ) (goal : Point) (from to : ℕ) (file : List ℕ) (last : ℕ) (first : Node) (node : Node) (i : ℕ) : Type 0 where
+-- The records before record i lead to this node, which stands on the floor and has fewer points than there are records; what is still to be judged is the rest.
+pub record Follows (plan vs ps : List ℕ) (trip : Trip) (file : List ℕ) (last : ℕ) (node : Node) (i : ℕ) : Type 0 where
   pub begun : 1 ≤ i
   pub upto : i ≤ last
   pub few : last ≤ 4096
+  pub is-last : last ≡ length file / 32 - 1
   pub inside : (last + 1) * 32 ≤ length file
-  pub stands : Stands s vs ps node
+  pub stands : Stands plan vs ps node
   pub points : node .points + 1 ≤ i
-  pub same : (start : Point) → judgeFrom (worldIn (floorOf s vs ps) (asked start goal) from to) file first 1 (last - 1) ≡ judgeFrom (worldIn (floorOf s vs ps) (asked start goal) from to) file node i (last - i)
+  pub same : let w = worldIn (floorIn plan vs ps) trip in judgeOf w file ≡ judgeFrom w file node i (last - i)
 
-module _ (s : ℕ) (vs ps marks : List ℕ) (ready : Ready s vs ps marks) (goal : Point) (from to : ℕ) (file : List ℕ) where
+module _ {plan vs ps : List ℕ} (g : Ground plan vs ps) (trip : Trip) (file : List ℕ) where
   abbrev f : Floor
-  f = floorOf s vs ps
+  f = floorIn plan vs ps
 
-  abbrev w : Point → World Node
-  w start = worldIn f (asked start goal) from to
+  abbrev w : World Node
+  w = worldIn f trip
 
-  abbrev last : ℕ
-  last = length file / 32 - 1
-
-  pub follows-begin : (start : Point) (node : Node) → from < length ps / (s * 8) → lengthRight file ≡ true → node ≡ seedNode start from → Follows s vs ps goal from to file last node node 1
-  follows-begin start node listed r e =
-      let g = length-gives file r in
-      record {
+  pub follows-begin : (last : ℕ) → last ≡ length file / 32 - 1 → trip .from < polygonCountIn plan → lengthRight file ≡ true
+      → sameBytes (recordAt file 0) (seedBytes (trip .from) (trip .start)) ≡ true → {node : Node} → node ≡ seedNode (trip .start) (trip .from)
+      → Follows plan vs ps trip file last node 1
+  unfolding worldIn
+  follows-begin last is-last listed right seeded e =
+      let g' = length-gives file right in
+      let n : length file / 32 ≡ last + 1 = omega arith in
+      subst (λ (x : Node). Follows plan vs ps trip file last x 1) (sym e)
+      (record {
         begun = omega arith;
         upto = omega arith;
         few = omega arith;
+        is-last = is-last;
         inside = omega arith;
-        stands = subst (Stands s vs ps) (sym e) (seed-stands s vs ps (ready .some) (ready .few) (ready .accepted) (ready .least) start from listed);
-        points = subst (λ (n : Node). n .points + 1 ≤ 1) (sym e) (omega (arith, seed-points start from));
-        same = λ start'. refl;
-      }
+        stands = seed-stands plan vs ps g (trip .start) (trip .from) listed;
+        points = omega (arith, seed-points (trip .start) (trip .from));
+        same = begins w file right seeded last n;
+      })
 
-  module _ (first node : Node) (i : ℕ) (h : Follows s vs ps goal from to file last first node i) where
-    pub follows-on : (t : Step) (next : Node) → i < last → findStep (stepsFrom f to node) (recordAt file i) ≡ Found t → next ≡ enter f node t → Follows s vs ps goal from to file last first next (i + 1)
+  module _ {last : ℕ} {node : Node} {i : ℕ} (h : Follows plan vs ps trip file last node i) where
+    pub follows-on : (t : Step) {next : Node} → i < last → findStep (stepsFrom f (trip .to) node) (recordAt file i) ≡ Found t
+        → next ≡ enter (verticesOf vs) node t → Follows plan vs ps trip file last next (i + 1)
     unfolding worldIn
-    follows-on t next l e k = subst (λ (n : Node). Follows s vs ps goal from to file last first n (i + 1)) (sym k) (record {
-      begun = omega arith;
-      upto = omega arith;
-      few = h .few;
-      inside = h .inside;
-      stands = enter-stands s vs ps (ready .some) (ready .few) (ready .accepted) to node (h .stands) t (find-found (stepsFrom f to node) (recordAt file i) t e .0);
-      points = omega (arith, few-points f node t, h .points);
-      same = λ start. h .same start ∙ goes-on-to (w start) file node i last t l e;
-    })
+    follows-on t l e k =
+        subst (λ (n : Node). Follows plan vs ps trip file last n (i + 1)) (sym k)
+        (record {
+          begun = omega arith;
+          upto = omega arith;
+          few = h .few;
+          is-last = h .is-last;
+          inside = h .inside;
+          stands = enter-stands plan vs ps g (trip .to) node (h .stands) t (find-found (stepsFrom f (trip .to) node) (recordAt file i) t e .0);
+          points = omega (arith, few-points (verticesOf vs) node t, h .points);
+          same = h .same ∙ goes-on-to w file node i last t l e;
+        })
 
-    module _ (start : Point) (right : lengthRight file ≡ true) (seeded : sameBytes (recordAt file 0) (seedBytes from start) ≡ true) (is-seed : first ≡ seedNode start from) where
-      -- the judge's own, from where the loop is
-      from-here : judgeOf (w start) file ≡ judgeFrom (w start) file node i (last - i)
-      unfolding worldIn
-      from-here =
-          let g = length-gives file right in
-          let n : length file / 32 ≡ last + 1 = omega arith in
-          begins (w start) file right seeded last n ∙ ap (λ (x : Node). judgeFrom (w start) file x 1 (last - 1)) (sym is-seed) ∙ h .same start
+    pub follows-stops : i < last → findStep (stepsFrom f (trip .to) node) (recordAt file i) ≡ Missing → judgeOf w file ≡ NotStep i
+    unfolding worldIn
+    follows-stops l e = h .same ∙ stops-at w file node i last l e
 
-      pub follows-stops : i < last → findStep (stepsFrom f to node) (recordAt file i) ≡ Missing → judgeOf (w start) file ≡ NotStep i
-      unfolding worldIn
-      follows-stops l e = from-here ∙ stops-at (w start) file node i last l e
-
-      pub follows-ends : last ≤ i → judgeOf (w start) file ≡ endOf node goal to file last
-      follows-ends l =
-          let n : i ≡ last = omega (arith, h .upto) in
-          from-here ∙ ends-at (w start) file node i last l ∙ end-in-world node goal to file i f start from ∙ ap (endOf node goal to file) n
+    pub follows-ends : last ≤ i → judgeOf w file ≡ endOf trip node file last
+    follows-ends l =
+        let n : i ≡ last = omega (arith, h .upto) in
+        h .same ∙ ends-at w file node i last l ∙ end-in-world trip node file i f ∙ ap (endOf trip node file) n

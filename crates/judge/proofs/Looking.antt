@@ -1,60 +1,41 @@
--- What a look that finds start and goal inside tells of the floor and of the question. Rests on the exact cases of a look (floor, proofs/Exact). Assumes nothing.
-use Prim.Native.Nat.{ℕ, _*_, _/_, _≤_, _<_}
-use mathlib.Core.Path.{_≡_, ap₂, _∙_, subst}
+-- From a floor and a question to the judge: each way through the code is the definition's. Assumes nothing.
+use Prim.Native.Nat.{ℕ}
+use mathlib.Core.Path.{_≡_, ap, _∙_}
 use mathlib.Core.List.{List}
-use lib.Dec.{lit<, lit≤}
-use lib.ListN.{length}
-use Rattle.floor.specs.declared.Look.the-variants.{Inside}
-use Rattle.point.specs.declared.Point.{Point}
-use Rattle.stored.specs.Stored.{Floor, Question, floorOf, questionOf}
-use Rattle.faults.specs.Accepted.{Accepted}
-use Rattle.edges.specs.Where.{marksOf, polygonOf}
-use Rattle.floor.specs.Look.{lookOf}
-use Rattle.stored.proofs.Records.{polygon-count}
-use Rattle.floor.proofs.Exact.{each-exactly, least-is-polygon}
+use Rattle.floor.specs.declared.Refusal.{Refusal}
+use Rattle.floor.specs.declared.FloorLook.{FloorLook}
+use Rattle.floor.specs.declared.FloorLook.the-variants.{Accepted as Sound, Faulty}
+use Rattle.floor.specs.declared.Look.{Look}
+use Rattle.floor.specs.declared.Look.the-variants.{Inside, Refused as LookRefused}
+use Rattle.stored.specs.Stored.{Floor, floorOf, questionOf}
+use Rattle.floor.specs.Look.{floorLookOf, askOf, lookOf}
 use Rattle.route.specs.declared.Judged.{Judged}
 use Rattle.route.specs.Judge.{judgeOf}
-use Rattle.steps.specs.World.{worldIn}
-use Rattle.judge.specs.Ready.{Ready}
-use Rattle.judge.specs.Verdict.{asked}
+use Rattle.steps.specs.declared.Trip.{Trip}
+use Rattle.steps.specs.World.{tripOf, worldIn}
+use Rattle.judge.specs.declared.Verdict.{Verdict}
+use Rattle.judge.specs.declared.Verdict.the-variants.{Refused, Read}
+use Rattle.judge.specs.Verdict.{judgedOn, verdictOf}
 
-pub record Looked (s : ℕ) (vs ps question : List ℕ) (from to : ℕ) : Type 0 where
-  pub accepted : Accepted (floorOf s vs ps)
-  pub least : 1 ≤ length vs / 8
-  pub most : length vs / 8 ≤ 1024
-  pub few : length ps / (s * 8) ≤ 512
-  pub long : length question ≡ 16
-  pub from-listed : from < length ps / (s * 8)
-  pub to-listed : to < length ps / (s * 8)
-  pub from-is : polygonOf (floorOf s vs ps) (questionOf question .start) ≡ from
-  pub to-is : polygonOf (floorOf s vs ps) (questionOf question .goal) ≡ to
+-- ---- the question
 
-module _ (s : ℕ) (vs ps question : List ℕ) (from to : ℕ) where
-  abbrev f : Floor
-  f = floorOf s vs ps
+module _ (f : Floor) (question route : List ℕ) {look : Look} (asked : look ≡ askOf f question) where
+  pub judges-inside : {from to : ℕ} → look ≡ Inside from to → {trip : Trip} → trip ≡ tripOf (questionOf question) from to
+      → {judged : Judged} → judged ≡ judgeOf (worldIn f trip) route → Read judged ≡ judgedOn f question route
+  unfolding judgedOn
+  judges-inside e t j = ap Read j ∙ rw (t, ← asked, e)
 
-  pub inside-tells : lookOf s vs ps question ≡ Inside from to → Looked s vs ps question from to
-  inside-tells e =
-      let h = each-exactly s vs ps question (Inside from to) .0 e in
-      record {
-        accepted = h .0 .1;
-        least = h .0 .0 .vertices-whole .some;
-        most = h .0 .0 .vertices-whole .few;
-        few = h .0 .0 .polygons-whole .few;
-        long = h .1 .long;
-        from-listed = subst (λ (n : ℕ). from < n) (polygon-count s vs ps) (h .2 .listed);
-        to-listed = subst (λ (n : ℕ). to < n) (polygon-count s vs ps) (h .3 .listed);
-        from-is = least-is-polygon f (questionOf question .start) from (h .2);
-        to-is = least-is-polygon f (questionOf question .goal) to (h .3);
-      }
+  pub judges-refused : {r : Refusal} → look ≡ LookRefused r → Refused r ≡ judgedOn f question route
+  unfolding judgedOn
+  judges-refused e = rw (← asked, e)
 
--- a floor with its marks, as the functions below the door ask for it
-pub ready : (vs ps marks question : List ℕ) (from to : ℕ) → lookOf 8 vs ps question ≡ Inside from to → marks ≡ marksOf (floorOf 8 vs ps) → Ready 8 vs ps marks
-ready vs ps marks question from to e m =
-    let h = inside-tells 8 vs ps question from to e in
-    record { some = lit< tt; few = lit≤ tt; accepted = h .accepted; least = h .least; most = h .most; marked = m }
+-- ---- the floor
 
--- a question by its two points, read off its bytes
-pub as-asked : (f : Floor) (q : Question) (from to : ℕ) (route : List ℕ) (start goal : Point) (judged : Judged) → start ≡ q .start → goal ≡ q .goal → judged ≡ judgeOf (worldIn f (asked start goal) from to) route
-    → judged ≡ judgeOf (worldIn f q from to) route
-as-asked f q from to route start goal judged a b e = e ∙ ap₂ (λ (x y : Point). judgeOf (worldIn f (asked x y) from to) route) a b
+module _ (slots : ℕ) (vs ps question route : List ℕ) {look : FloorLook} (looked : look ≡ floorLookOf slots vs ps) where
+  pub judges-floor : look ≡ Sound → {v : Verdict} {s : ℕ} → s ≡ slots → v ≡ judgedOn (floorOf s vs ps) question route → v ≡ verdictOf slots vs ps question route
+  unfolding verdictOf judgedOn lookOf
+  judges-floor e s v = v ∙ rw (s, ← looked, e)
+
+  pub judges-faulty : {r : Refusal} → look ≡ Faulty r → Refused r ≡ verdictOf slots vs ps question route
+  unfolding verdictOf lookOf
+  judges-faulty e = rw (← looked, e)

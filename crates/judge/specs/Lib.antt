@@ -1,4 +1,3 @@
 -- What the judge says of a floor, a question and a route file.
-pub mod Ready
 pub mod Verdict
 pub mod Exactly

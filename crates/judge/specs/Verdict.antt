@@ -5,30 +5,27 @@ use mathlib.Core.Bool.{_&&_, cond}
 use mathlib.Core.List.{List}
 use Rattle.told.specs.declared.Told.{Told}
 use Rattle.told.specs.Told.{numberOf, valuesOf}
-use Rattle.point.specs.declared.Point.{Point}
 use Rattle.floor.specs.declared.Look.{Look}
 use Rattle.floor.specs.declared.Look.the-variants.{Inside, Refused as LookRefused}
-use Rattle.stored.specs.Stored.{Question, floorOf, questionOf}
-use Rattle.floor.specs.Look.{lookOf, refusalTold}
+use Rattle.stored.specs.Stored.{Floor, floorOf, questionOf}
+use Rattle.floor.specs.Look.{askOf, lookOf, refusalTold}
 use Rattle.route.specs.declared.Judged.{Judged}
 use Rattle.route.specs.declared.Judged.the-variants.{Accepted, NotEnd}
 use Rattle.route.specs.Record.{recordAt, endBytes}
 use Rattle.route.specs.Judge.{sameBytes, judgeOf, judgedTold}
 use Rattle.steps.specs.declared.Node.{Node}
-use Rattle.steps.specs.World.{endingOf, isInGoal, worldIn}
+use Rattle.steps.specs.declared.Trip.{Trip}
+use Rattle.steps.specs.World.{endingOf, isInGoal, tripOf, worldIn}
 use Rattle.judge.specs.declared.Verdict.{Verdict}
 use Rattle.judge.specs.declared.Verdict.the-variants.{Refused, Read}
 
 -- ---- the last record
 
--- a question by its two points
-abbrev pub asked : Point → Point → Question
-asked start goal = record { start = start; goal = goal }
-
 -- "23: last record is not the true end, or the one before it is not in the goal polygon"
-unfoldable pub endOf : Node → Point → ℕ → List ℕ → ℕ → Judged
-endOf node goal to file i =
-    cond (isInGoal to node && sameBytes (recordAt file i) (endBytes (endingOf goal node .points) goal (endingOf goal node .length))) Accepted (NotEnd i)
+unfoldable pub endOf : Trip → Node → List ℕ → ℕ → Judged
+endOf trip node file i =
+    let ending = endingOf (trip .goal) node in
+    cond (isInGoal (trip .to) node && sameBytes (recordAt file i) (endBytes (ending .points) (trip .goal) (ending .length))) Accepted (NotEnd i)
 
 -- ---- the judge
 
@@ -37,10 +34,18 @@ abbrev pub judgeIf : Look → (ℕ → ℕ → Judged) → Verdict
 judgeIf (Inside from to) judged = Read (judged from to)
 judgeIf (LookRefused refusal) judged = Refused refusal
 
+-- "then 20, then records in order", start and goal being in these polygons
+abbrev pub judgedIn : Floor → List ℕ → List ℕ → ℕ → ℕ → Judged
+judgedIn f question route from to = judgeOf (worldIn f (tripOf (questionOf question) from to)) route
+
+-- 7 to 9, of a floor that was accepted, and the route file
+unfoldable pub judgedOn : Floor → List ℕ → List ℕ → Verdict
+judgedOn f question route = judgeIf (askOf f question) (judgedIn f question route)
+
+-- 2 to 9, and the route file
 unfoldable pub verdictOf : ℕ → List ℕ → List ℕ → List ℕ → List ℕ → Verdict
 verdictOf slots vertices polygons question route =
-    judgeIf (lookOf slots vertices polygons question)
-    (λ from to. judgeOf (worldIn (floorOf slots vertices polygons) (questionOf question) from to) route)
+    judgeIf (lookOf slots vertices polygons question) (judgedIn (floorOf slots vertices polygons) question route)
 
 -- ---- what is told of each verdict
 

@@ -5,7 +5,7 @@ ghost use Prim.Native.Nat.{_+_, _*_, _≤_};
 ghost use lib.ListN.{length};
 ghost use Rattle.route.specs.Record.{recordAt, putRecord};
 ghost use Rattle.route.specs.Judge.{sameBytes, lengthRight};
-ghost use Rattle.records.specs.Records.{recordBytes, seedRecord, stepRecord, endRecord, kindIn, pointIn, stepIn};
+ghost use Rattle.records.specs.Records.{recordBytes, seedRecord, stepRecord, endRecord, kindIn, kindWord, polygonWord, firstWord, secondWord, pointsWord, pointIn, pointStands, intervalStands, stepIn};
 use cut::SuccessorType;
 use point::Point;
 use point::Segment;
@@ -134,23 +134,77 @@ fn point_in(route: &[u8], at: usize) -> Point
     Point { x, y }
 }
 
+// The number of the kind of the step that is record i.
+pub fn kind_at(route: &[u8], i: usize) -> u32
+    requires { ⌜ (i + 1) * 32 ≤ length (now route) ⌝ }
+    ensures { λ r. ⌜ r ≡ kindWord (now (route .entry)) i ⌝ }
+{
+    word::read(route, i * Record::BYTES)
+}
+
+// The polygon that it enters.
+pub fn polygon_at(route: &[u8], i: usize) -> u32
+    requires { ⌜ (i + 1) * 32 ≤ length (now route) ⌝ }
+    ensures { λ r. ⌜ r ≡ polygonWord (now (route .entry)) i ⌝ }
+{
+    word::read(route, i * Record::BYTES + 4)
+}
+
+// The first vertex of the edge that it leads over.
+pub fn first_at(route: &[u8], i: usize) -> u32
+    requires { ⌜ (i + 1) * 32 ≤ length (now route) ⌝ }
+    ensures { λ r. ⌜ r ≡ firstWord (now (route .entry)) i ⌝ }
+{
+    word::read(route, i * Record::BYTES + 8)
+}
+
+// The second one.
+pub fn second_at(route: &[u8], i: usize) -> u32
+    requires { ⌜ (i + 1) * 32 ≤ length (now route) ⌝ }
+    ensures { λ r. ⌜ r ≡ secondWord (now (route .entry)) i ⌝ }
+{
+    word::read(route, i * Record::BYTES + 12)
+}
+
+// How many points the route has, where record i is its end.
+pub fn points_at(route: &[u8], i: usize) -> u32
+    requires { ⌜ (i + 1) * 32 ≤ length (now route) ⌝ }
+    ensures { λ r. ⌜ r ≡ pointsWord (now (route .entry)) i ⌝ }
+{
+    word::read(route, i * Record::BYTES + 4)
+}
+
+// Whether a point's two words stand here.
+fn is_point(point: Point, route: &[u8], at: usize) -> bool
+    requires { ⌜ at + 8 ≤ length (now route) ⌝ }
+    ensures { λ r. ⌜ r ≡ pointStands point (now (route .entry)) at ⌝ }
+{
+    word::read(route, at) == float::to_bits(point.x)
+        && word::read(route, at + 4) == float::to_bits(point.y)
+}
+
+// Whether the step that is record i has this interval.
+pub fn has_interval(route: &[u8], i: usize, interval: Segment) -> bool
+    requires { ⌜ (i + 1) * 32 ≤ length (now route) ⌝ }
+    ensures { λ r. ⌜ r ≡ intervalStands interval (now (route .entry)) i ⌝ }
+{
+    is_point(interval.0, route, i * Record::BYTES + 16)
+        && is_point(interval.1, route, i * Record::BYTES + 24)
+}
+
 // The step that a record is, where it is one: so a step need not be handed on beside its record.
 pub fn step_in(route: &[u8], i: usize) -> Step
     requires { ⌜ (i + 1) * 32 ≤ length (now route) ⌝ }
     ensures { λ r. ⌜ r ≡ stepIn (now (route .entry)) i ⌝ }
 {
-    let at = i * Record::BYTES;
-    let kind = kind_in(word::read(route, at));
-    let polygon = word::read(route, at + 4);
-    let first = word::read(route, at + 8);
-    let second = word::read(route, at + 12);
-    let right = point_in(route, at + 16);
-    let left = point_in(route, at + 24);
+    let kind = kind_in(kind_at(route, i));
+    let right = point_in(route, i * Record::BYTES + 16);
+    let left = point_in(route, i * Record::BYTES + 24);
     Step {
         kind,
-        polygon,
-        first,
-        second,
+        polygon: polygon_at(route, i),
+        first: first_at(route, i),
+        second: second_at(route, i),
         interval: Segment(right, left),
     }
 }

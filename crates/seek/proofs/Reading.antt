@@ -20,13 +20,13 @@ use Rattle.route.specs.Record.{bits, stepWords, stepBytes, recordAt}
 use Rattle.route.specs.World.{_∈_}
 use Rattle.route.specs.Judge.{sameBytes, findStep}
 use Rattle.route.proofs.Find.{same-true, find-found}
-use Rattle.records.specs.Records.{stepIn}
+use Rattle.records.specs.Records.{pointStands, intervalStands, stepIn}
 use Rattle.records.proofs.Stored.{stands}
 use Rattle.records.proofs.Read.{step-stands, step-is-read}
 use Rattle.steps.specs.declared.Node.{Node}
 use Rattle.steps.specs.Steps.{stepsFrom}
 use Rattle.steps.proofs.World.{steps-are-held}
-use Rattle.seek.specs.Seek.{pointAt, isStepAt, isAmong}
+use Rattle.seek.specs.Seek.{isStepAt, isAmong}
 
 -- ---- in the code's order, and in the record's
 
@@ -43,7 +43,7 @@ in-order false b true d e f g h = refl
 in-order false b false d e f g h = refl
 
 asked-is-stood : (s : Step) (file : List ℕ) (i : ℕ) → isStepAt s file i ≡ every 8 (stands file (i * 32) (stepWords s))
-unfolding isStepAt pointAt every stepWords
+unfolding isStepAt intervalStands pointStands every stepWords
 asked-is-stood s file i =
     let k : i * 32 ≡ i * 32 + 0 = omega arith in
     let y : i * 32 + 16 + 4 ≡ i * 32 + 20 = omega arith in

@@ -2,50 +2,48 @@
 // step but what its record has to say, so that no step is kept beside the record.
 
 ghost use mathlib.Core.Path.{_≡_};
+ghost use mathlib.Core.Bool.{false};
 ghost use Prim.Native.Nat.{_+_, _*_, _/_, _≤_, _<_};
 ghost use lib.ListN.{length};
-ghost use Rattle.stored.specs.Stored.{floorOf, polygonAt, cornerCount};
-ghost use Rattle.edges.specs.Where.{marksOf};
-ghost use Rattle.steps.specs.Steps.{isAllowed, clipped, stepsFrom};
-ghost use Rattle.going.specs.Going.{Stands};
-ghost use Rattle.seek.specs.Seek.{pointAt, namesAt, endsAt, turnsAt, overAt, isAmong};
+ghost use Rattle.walk.specs.Walk.{partsOf};
+ghost use Rattle.walk.specs.Round.{successorsOn};
+ghost use Rattle.walk.specs.Turns.{isOverOf, edgeNumberOf, nextOf};
+ghost use Rattle.plan.specs.Plan.{slotsIn, vertexCountIn, isMarked};
+ghost use Rattle.stored.specs.Stored.{verticesOf, recordIn, floorIn, Lies, VerticesPlanned};
+ghost use Rattle.edges.specs.Ground.{Ground};
+ghost use Rattle.steps.specs.Steps.{isAllowed, clipped, stepsOver, stepsFrom};
+ghost use Rattle.going.specs.Going.{walkedOn, Stands, Goes};
+ghost use Rattle.seek.specs.Seek.{namesAt, endsAt, turnsAt, overAt, isAmong};
 use cone::Clipped;
 use cut::SuccessorType;
+use plan::PLAN;
 use point::Point;
 use point::Segment;
-use records::Record;
 use route::kind_number;
 use steps::Node;
 use stored::UNUSED;
-use walk::Part;
+use walk::Round;
+use walk::Successor;
 
-// Whether a point's two words stand here.
-fn is_point(point: Point, route: &[u8], at: usize) -> bool
-    requires { ⌜ at + 8 ≤ length (now route) ⌝ }
-    ensures { λ r. ⌜ r ≡ pointAt point (now (route .entry)) at ⌝ }
-{
-    word::read(route, at) == float::to_bits(point.x)
-        && word::read(route, at + 4) == float::to_bits(point.y)
-}
-
-// Whether the record has the kind, the vertices and the neighbour of a step of this kind over an edge of polygon p.
-fn names_edge(
+// Whether the record has the kind, the vertices and the neighbour of a step over this part of an edge of polygon p.
+fn names(
     polygons: &[u8],
-    slots: usize,
+    plan: &[u32; PLAN],
     p: usize,
-    edge: usize,
-    kind: SuccessorType,
+    successor: Successor,
     route: &[u8],
     i: usize,
 ) -> bool
-    requires { ⌜ (slots ≤ 16) × (edge < slots) × (p < length (now polygons) / (slots * 8)) × ((i + 1) * 32 ≤ length (now route)) ⌝ }
-    ensures { λ r. ⌜ r ≡ namesAt (polygonAt slots (now (polygons .entry)) p) edge kind (now (route .entry)) i ⌝ }
+    requires { ⌜ Lies (now plan) (now polygons) p × (successor .edge < slotsIn (now plan)) × ((i + 1) * 32 ≤ length (now route)) ⌝ }
+    ensures { λ r. ⌜ r ≡ namesAt (recordIn (now (plan .entry)) (now (polygons .entry)) p) successor (now (route .entry)) i ⌝ }
 {
-    let at = i * Record::BYTES;
-    word::read(route, at + 8) == stored::corner(polygons, slots, p, edge)
-        && (word::read(route, at) == kind_number(kind)
-            && (word::read(route, at + 12) == stored::corner_after(polygons, slots, p, edge)
-                && word::read(route, at + 4) == stored::neighbour(polygons, slots, p, edge)))
+    let edge = successor.edge;
+    let part = successor.part;
+    let kind = part.kind;
+    records::first_at(route, i) == stored::corner(polygons, plan, p, edge)
+        && (records::kind_at(route, i) == kind_number(kind)
+            && (records::second_at(route, i) == stored::corner_after(polygons, plan, p, edge)
+                && records::polygon_at(route, i) == stored::neighbour(polygons, plan, p, edge)))
 }
 
 // Whether what is seen is an interval to step over, and the record's.
@@ -53,76 +51,48 @@ fn ends_there(seen: Clipped, route: &[u8], i: usize) -> bool
     requires { ⌜ (i + 1) * 32 ≤ length (now route) ⌝ }
     ensures { λ r. ⌜ r ≡ endsAt seen (now (route .entry)) i ⌝ }
 {
-    let at = i * Record::BYTES;
     match seen {
         Clipped::Seen(interval) => {
-            view::is_interval(interval)
-                && (is_point(interval.0, route, at + 16) && is_point(interval.1, route, at + 24))
+            view::is_interval(interval) && records::has_interval(route, i, interval)
         }
         Clipped::Nothing => false,
     }
 }
 
 // The way may turn at a turn vertex that the interval's end lands on.
-fn turns_at(
-    vertices: &[u8],
-    polygons: &[u8],
-    slots: usize,
-    marks: &[u32; 32],
-    v: u32,
-    end: Point,
-    root: Point,
-) -> bool
-    requires { ⌜ (v < length (now vertices) / 8) × (length (now vertices) / 8 ≤ 1024) × (now marks ≡ marksOf (floorOf slots (now vertices) (now polygons))) ⌝ }
-    ensures { λ r. ⌜ r ≡ turnsAt (floorOf slots (now (vertices .entry)) (now (polygons .entry))) v end root ⌝ }
+fn turns_at(vertices: &[u8], plan: &[u32; PLAN], v: u32, end: Point, root: Point) -> bool
+    requires { ⌜ VerticesPlanned (now plan) (now vertices) × (v < vertexCountIn (now plan)) ⌝ }
+    ensures { λ r. ⌜ r ≡ turnsAt (verticesOf (now (vertices .entry))) (isMarked (now (plan .entry))) v end root ⌝ }
 {
     let at = stored::used_vertex(vertices, v as usize);
-    cone::lands_on(end, at, root) && edges::turns::turns(marks, v as usize)
+    cone::lands_on(end, at, root) && plan::turns(plan, v as usize)
 }
 
 // Whether a step of this kind may be taken out of the node.
-fn allows(
-    vertices: &[u8],
-    polygons: &[u8],
-    slots: usize,
-    marks: &[u32; 32],
-    node: Node,
-    kind: SuccessorType,
-) -> bool
-    requires { ⌜ (node .first < length (now vertices) / 8) × (node .second < length (now vertices) / 8) × (length (now vertices) / 8 ≤ 1024) × (now marks ≡ marksOf (floorOf slots (now vertices) (now polygons))) ⌝ }
-    ensures { λ r. ⌜ r ≡ isAllowed (floorOf slots (now (vertices .entry)) (now (polygons .entry))) node kind ⌝ }
+fn allows(vertices: &[u8], plan: &[u32; PLAN], node: Node, kind: SuccessorType) -> bool
+    requires { ⌜ VerticesPlanned (now plan) (now vertices) × (node .first < vertexCountIn (now plan)) × (node .second < vertexCountIn (now plan)) ⌝ }
+    ensures { λ r. ⌜ r ≡ isAllowed (verticesOf (now (vertices .entry))) (isMarked (now (plan .entry))) node kind ⌝ }
 {
     let root = node.root;
     let right = node.interval.0;
     let left = node.interval.1;
     match kind {
         SuccessorType::Observable => true,
-        SuccessorType::RightNonObservable => {
-            turns_at(vertices, polygons, slots, marks, node.first, right, root)
-        }
-        SuccessorType::LeftNonObservable => {
-            turns_at(vertices, polygons, slots, marks, node.second, left, root)
-        }
+        SuccessorType::RightNonObservable => turns_at(vertices, plan, node.first, right, root),
+        SuccessorType::LeftNonObservable => turns_at(vertices, plan, node.second, left, root),
     }
 }
 
 // What the node sees of an interval of this kind.
-fn see(
-    vertices: &[u8],
-    polygons: &[u8],
-    slots: usize,
-    node: Node,
-    kind: SuccessorType,
-    interval: Segment,
-) -> Clipped
+fn see(vertices: &[u8], node: Node, kind: SuccessorType, interval: Segment) -> Clipped
     requires { ⌜ (node .first < length (now vertices) / 8) × (node .second < length (now vertices) / 8) ⌝ }
-    ensures { λ r. ⌜ r ≡ clipped (floorOf slots (now (vertices .entry)) (now (polygons .entry))) node kind interval ⌝ }
+    ensures { λ r. ⌜ r ≡ clipped (verticesOf (now (vertices .entry))) node kind interval ⌝ }
 {
     if node.seed {
         return Clipped::Seen(interval);
     }
     let root = node.root;
-    let next = node.root_after(vertices, polygons, slots, kind);
+    let next = node.root_after(vertices, kind);
     if next.same(root) {
         let cone = node.interval;
         return cone::clip_to_cone(root, cone, interval);
@@ -134,71 +104,100 @@ fn see(
 fn is_over(
     vertices: &[u8],
     polygons: &[u8],
-    slots: usize,
-    marks: &[u32; 32],
+    plan: &[u32; PLAN],
     node: Node,
-    edge: usize,
-    part: Part,
+    successor: Successor,
     route: &[u8],
     i: usize,
 ) -> bool
-    requires { ⌜ (slots ≤ 16) × (edge < slots) × (node .polygon < length (now polygons) / (slots * 8)) × ((i + 1) * 32 ≤ length (now route)) ⌝ }
-    requires { ⌜ (node .first < length (now vertices) / 8) × (node .second < length (now vertices) / 8) × (length (now vertices) / 8 ≤ 1024) × (now marks ≡ marksOf (floorOf slots (now vertices) (now polygons))) ⌝ }
-    ensures { λ r. ⌜ r ≡ overAt (floorOf slots (now (vertices .entry)) (now (polygons .entry))) (polygonAt slots (now (polygons .entry)) (node .polygon)) node edge part (now (route .entry)) i ⌝ }
+    requires { ⌜ Stands (now plan) (now vertices) (now polygons) node × Ground (now plan) (now vertices) (now polygons) ⌝ }
+    requires { ⌜ (successor .edge < slotsIn (now plan)) × ((i + 1) * 32 ≤ length (now route)) ⌝ }
+    ensures { λ r.
+        let vs = verticesOf (now (vertices .entry)) in
+        let q = recordIn (now (plan .entry)) (now (polygons .entry)) (node .polygon) in
+        ⌜ r ≡ overAt vs (isMarked (now (plan .entry))) q node successor (now (route .entry)) i ⌝ }
 {
     let p = node.polygon as usize;
-    let kind = part.kind;
-    if stored::neighbour(polygons, slots, p, edge) == UNUSED {
+    if stored::neighbour(polygons, plan, p, successor.edge) == UNUSED {
         return false;
     }
+    let part = successor.part;
+    let kind = part.kind;
     let interval = part.interval;
-    names_edge(polygons, slots, p, edge, kind, route, i)
-        && (allows(vertices, polygons, slots, marks, node, kind)
-            && ends_there(
-                see(vertices, polygons, slots, node, kind, interval),
-                route,
-                i,
-            ))
+    names(polygons, plan, p, successor, route, i)
+        && (allows(vertices, plan, node, kind)
+            && ends_there(see(vertices, node, kind, interval), route, i))
 }
 
-// Whether the record is a step out of the node. Nothing steps out of the goal polygon. An edge has one to three parts, and the last of
-// them stands in the places behind it.
+// What came of an edge: whether the record is a step over one of its parts, and the round behind it.
+struct Looked {
+    found: bool,
+    next: Round,
+}
+
+// Walks the round's edge and looks for the record among the steps over its parts.
+fn look_on_edge(
+    vertices: &[u8],
+    polygons: &[u8],
+    plan: &[u32; PLAN],
+    node: Node,
+    round: Round,
+    route: &[u8],
+    i: usize,
+) -> Looked
+    requires { ⌜ Stands (now plan) (now vertices) (now polygons) node × Ground (now plan) (now vertices) (now polygons) ⌝ }
+    requires { ⌜ Goes (recordIn (now plan) (now polygons) (node .polygon)) node round × (isOverOf round ≡ false) × ((i + 1) * 32 ≤ length (now route)) ⌝ }
+    ensures { λ r.
+        let f = floorIn (now (plan .entry)) (now (vertices .entry)) (now (polygons .entry)) in
+        let walked = walkedOn f node round in
+        ⌜ r .found ≡ isAmong (stepsOver f node (successorsOn (edgeNumberOf round) (partsOf walked))) (now (route .entry)) i ⌝ }
+    ensures { λ r.
+        let f = floorIn (now (plan .entry)) (now (vertices .entry)) (now (polygons .entry)) in
+        ⌜ r .next ≡ nextOf round (walkedOn f node round .kind) ⌝ }
+{
+    let edge = round.edge();
+    let walked = going::walk(vertices, polygons, plan, node, round);
+    let kind = walked.kind;
+    let next = round.next(kind);
+    let mut k = 0;
+    while k < walked.count {
+        let part = walked.parts[k];
+        let successor = Successor { edge, part };
+        if is_over(vertices, polygons, plan, node, successor, route, i) {
+            return Looked { found: true, next };
+        }
+        k += 1;
+    }
+    Looked { found: false, next }
+}
+
+// Whether the record is a step out of the node. Nothing steps out of the goal polygon.
 pub fn is_step(
     vertices: &[u8],
     polygons: &[u8],
-    slots: usize,
-    marks: &[u32; 32],
+    plan: &[u32; PLAN],
     node: Node,
     goal: u32,
     route: &[u8],
     i: usize,
 ) -> bool
-    requires { ⌜ Stands slots (now vertices) (now polygons) node ⌝ }
-    requires { ⌜ (length (now vertices) / 8 ≤ 1024) × (now marks ≡ marksOf (floorOf slots (now vertices) (now polygons))) × ((i + 1) * 32 ≤ length (now route)) ⌝ }
-    ensures { λ r. ⌜ r ≡ isAmong (stepsFrom (floorOf slots (now (vertices .entry)) (now (polygons .entry))) goal node) (now (route .entry)) i ⌝ }
+    requires { ⌜ Stands (now plan) (now vertices) (now polygons) node × Ground (now plan) (now vertices) (now polygons) ⌝ }
+    requires { ⌜ (i + 1) * 32 ≤ length (now route) ⌝ }
+    ensures { λ r.
+        let f = floorIn (now (plan .entry)) (now (vertices .entry)) (now (polygons .entry)) in
+        ⌜ r ≡ isAmong (stepsFrom f goal node) (now (route .entry)) i ⌝ }
 {
     if node.polygon == goal {
         return false;
     }
-    let mut round = going::begin(polygons, slots, node);
+    let mut round = going::begin(polygons, plan, node);
     while !round.is_over() {
-        let edge = round.edge();
-        let kind = round.kind;
-        let walked = going::walk_at(vertices, polygons, slots, node, edge, kind);
-        let one = walked.parts[0];
-        if is_over(vertices, polygons, slots, marks, node, edge, one, route, i) {
+        let looked = look_on_edge(vertices, polygons, plan, node, round, route, i);
+        let found = looked.found;
+        if found {
             return true;
         }
-        let two = walked.parts[1];
-        if is_over(vertices, polygons, slots, marks, node, edge, two, route, i) {
-            return true;
-        }
-        let end = walked.parts[2];
-        if is_over(vertices, polygons, slots, marks, node, edge, end, route, i) {
-            return true;
-        }
-        let next = walked.kind;
-        round = round.next(next);
+        round = looked.next;
     }
     false
 }

@@ -1,43 +1,46 @@
 -- `judge` meets its contract. Assumes nothing.
-use native.Mathlib.Omega.{arith}
-use mathlib.Core.Path.{sym, ap, _∙_}
 use borrow.Author.Needs.{needs}
 use denote.Ref.{now}
-use Rattle.judge.specs.declared.Verdict.the-variants.{Read}
-use Rattle.judge.specs.Verdict.{verdictOf}
-use Rattle.judge.proofs.Looking.{inside-tells}
+use mathlib.Core.Path.{_≡_, sym, _∙_}
+use lib.Dec.{lit<, lit≤}
+use Rattle.floor.specs.declared.FloorLook.the-variants.{Accepted as Sound}
+use Rattle.floor.specs.Look.{floorLookOf}
+use Rattle.floor.proofs.Planned.{slots-are, grounded}
+use Rattle.judge.proofs.Looking.{judges-floor, judges-faulty}
 use Rattle.judge.proofs.judge.Statement.{statement}
 use Rattle.judge.proofs.judge.Tie as tie
 
-cast-judge-inside : tie.Need-cast-judge-inside
-cast-judge-inside c =
-    let at-look-at = c .before .before .before in
-    let s = at-look-at .before .before .before .before .before in
-    let h = inside-tells 8 (now (s .args .vertices)) (now (s .args .polygons)) (now (s .args .question)) _ _
-    (sym (at-look-at .look-at .ensures) ∙ c .before .look .given .1) in
-    omega (arith, h .from-listed, h .few)
+-- ---- places
 
-cast-judge-inside-2 : tie.Need-cast-judge-inside-2
-cast-judge-inside-2 c =
-    let at-look-at = c .before .before .before in
-    let s = at-look-at .before .before .before .before .before in
-    let h = inside-tells 8 (now (s .args .vertices)) (now (s .args .polygons)) (now (s .args .question)) _ _
-    (sym (at-look-at .look-at .ensures) ∙ c .before .look .given .1) in
-    omega (arith, h .to-listed, h .few)
+abbrev start : tie.After-look-at-floor → tie.Start
+start c = c .before .before .before .before .before .before
 
-judge-inside-requires : tie.Need-judge-inside-requires
-judge-inside-requires c κs = sym (c .before .before .before .look-at .ensures) ∙ c .before .look .given .1
+-- behind the look at a floor that is accepted
+abbrev looked : tie.After-enum-told → tie.After-look-at-floor
+looked c = c .before .before
+
+sound : (c : tie.After-enum-told) → let s = start (looked c) in floorLookOf 8 (now (s .args .vertices)) (now (s .args .polygons)) ≡ Sound
+sound c = sym (looked c .look-at-floor .ensures .0) ∙ c .enum-told .given .1
+
+-- ---- accepted
+
+judge-on-requires : tie.Need-judge-on-requires
+judge-on-requires c κs =
+    let told = c .before in
+    grounded 8 _ _ (lit< tt) (lit≤ tt) (sound told) _ (looked told .look-at-floor .ensures .1)
 
 returns : tie.Need-returns
-unfolding verdictOf
 returns c =
-    let at-look = c .before .before in
-    let at-look-at = at-look .before .before in
-    rw (← at-look-at .look-at .ensures, at-look .look .given .1) (ap Read (c .judge-inside .ensures))
+    let told = c .before .before in
+    let look = looked told .look-at-floor in
+    judges-floor 8 _ _ _ _ (look .ensures .0) (told .enum-told .given .1) (slots-are 8 _ _ (lit< tt) (lit≤ tt) (sound told) _ (look .ensures .1))
+    (c .judge-on .ensures)
+
+-- ---- at fault
 
 returns-2 : tie.Need-returns-2
-unfolding verdictOf
-returns-2 c = rw (← c .before .before .before .look-at .ensures, c .before .look2 .given .1)
+returns-2 c = judges-faulty 8 _ _ _ _ (c .before .before .before .look-at-floor .ensures .0) (c .before .refusal .given .1)
 
 pub judge-spec : {M : Type 1} → statement M
-judge-spec = tie.close (tie.spec (λ c κs. search needs) (λ c. search needs) cast-judge-inside cast-judge-inside-2 judge-inside-requires (λ c. search needs) returns returns-2)
+judge-spec =
+    tie.close (tie.spec (λ c κs. search needs) (λ c. search needs) judge-on-requires (λ c. search needs) returns returns-2)

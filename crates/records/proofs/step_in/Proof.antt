@@ -1,4 +1,3 @@
--- `records::step_in` meets its contract by what its callees ensure. Assumes nothing.
 use borrow.Author.Needs.{needs}
 use Rattle.records.specs.Records.{stepIn}
 use Rattle.records.proofs.step_in.Statement.{statement}
@@ -13,11 +12,10 @@ returns c =
     let c4 = c3 .before in
     let c5 = c4 .before in
     let c6 = c5 .before in
-    rw (← c6 .read .ensures, ← c5 .kind-in .ensures, ← c4 .read2 .ensures, ← c3 .read3 .ensures, ← c2 .read4 .ensures, ← c1 .point-in .ensures, ← c .point-in2 .ensures)
+    rw (← c6 .kind-at .ensures, ← c5 .kind-in .ensures, ← c4 .point-in .ensures, ← c3 .point-in2 .ensures, ← c2 .polygon-at .ensures, ← c1 .first-at .ensures, ← c .second-at .ensures)
 
 pub step-in-spec : {M : Type 1} → statement M
 step-in-spec =
     tie.close
-    (tie.spec (λ c. search needs) (λ c κs. search needs) (λ c κs. search needs) (λ c. search needs) (λ c κs. search needs) (λ c. search needs)
-    (λ c κs. search needs) (λ c. search needs) (λ c κs. search needs) (λ c. search needs) (λ c κs. search needs) (λ c. search needs)
-    (λ c κs. search needs) returns)
+    (tie.spec (λ c κs. search needs) (λ c κs. search needs) (λ c. search needs) (λ c. search needs) (λ c κs. search needs) (λ c. search needs)
+    (λ c. search needs) (λ c κs. search needs) (λ c κs. search needs) (λ c κs. search needs) (λ c κs. search needs) returns)

@@ -1,4 +1,3 @@
--- `seek::is_over` meets its contract: each return is its definition's case, by the tests and by what its callees ensure. Assumes nothing.
 use borrow.Author.Needs.{needs}
 use borrow.Author.Tests.{eq-eqb}
 use borrow.Author.Tests.{ne-eqb}
@@ -20,13 +19,13 @@ returns-2 c =
     let c3 = c2 .before in
     let c4 = c3 .before in
     let c5 = c4 .before in
-    let c7 = c5 .before .before in
-    let c8 = c7 .before in
+    let c8 = c5 .before .before .before in
+    let c9 = c8 .before in
     rw (
-      ← c8 .neighbour .ensures,
+      ← c9 .neighbour .ensures,
       ne-eqb _ _
-          (c7 .if1 .left),
-      ← c5 .names-edge .ensures,
+          (c8 .if1 .left),
+      ← c5 .names .ensures,
       c4 .if2 .taken,
       ← c3 .allows .ensures,
       c2 .if3 .taken,
@@ -40,17 +39,17 @@ returns-3 c =
     let c1 = c .before in
     let c2 = c1 .before in
     let c3 = c2 .before in
-    let c5 = c3 .before .before in
-    let c6 = c5 .before in
-    rw (← c6 .neighbour .ensures, ne-eqb _ _ (c5 .if1 .left), ← c3 .names-edge .ensures, c2 .if2 .taken, ← c1 .allows .ensures, c .if3 .left)
+    let c6 = c3 .before .before .before in
+    let c7 = c6 .before in
+    rw (← c7 .neighbour .ensures, ne-eqb _ _ (c6 .if1 .left), ← c3 .names .ensures, c2 .if2 .taken, ← c1 .allows .ensures, c .if3 .left)
 
 returns-4 : tie.Need-returns-4
 unfolding overAt
 returns-4 c =
     let c1 = c .before in
-    let c3 = c1 .before .before in
-    let c4 = c3 .before in
-    rw (← c4 .neighbour .ensures, ne-eqb _ _ (c3 .if1 .left), ← c1 .names-edge .ensures, c .if2 .left)
+    let c4 = c1 .before .before .before in
+    let c5 = c4 .before in
+    rw (← c5 .neighbour .ensures, ne-eqb _ _ (c4 .if1 .left), ← c1 .names .ensures, c .if2 .left)
 
 pub is-over-spec : {M : Type 1} → statement M
 is-over-spec =

@@ -1,13 +1,13 @@
--- `seek::is_point` meets its contract: each return is its definition's case, by the tests. Assumes nothing.
+-- `records::is_point` meets its contract: each return is its definition's case, by the tests. Assumes nothing.
 use borrow.Author.Needs.{needs}
 use borrow.Author.Tests.{eq-eqb}
 use borrow.Author.Tests.{ne-eqb}
-use Rattle.seek.specs.Seek.{pointAt}
-use Rattle.seek.proofs.is_point.Statement.{statement}
-use Rattle.seek.proofs.is_point.Tie as tie
+use Rattle.records.specs.Records.{pointStands}
+use Rattle.records.proofs.is_point.Statement.{statement}
+use Rattle.records.proofs.is_point.Tie as tie
 
 returns : tie.Need-returns
-unfolding pointAt
+unfolding pointStands
 returns c =
     let c1 = c .before in
     let c2 = c1 .before in
@@ -16,7 +16,7 @@ returns c =
     rw (← c4 .read .ensures, ← c3 .to-bits .ensures, eq-eqb _ _ (c2 .if1 .taken), ← c1 .read2 .ensures, ← c .to-bits2 .ensures)
 
 returns-2 : tie.Need-returns-2
-unfolding pointAt
+unfolding pointStands
 returns-2 c =
     let c1 = c .before in
     let c2 = c1 .before in
