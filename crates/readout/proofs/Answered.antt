@@ -1,6 +1,6 @@
 -- The read-out's answers by their cases: too short, listed, or what the judge says. Assumes nothing.
 use Prim.Native.Nat.{ℕ, _*_, _≤_, _<_}
-use mathlib.Core.Path.{_≡_, sym, ap, ap₂, _∙_, subst}
+use mathlib.Core.Path.{_≡_, refl, sym, ap, ap₂, _∙_, subst}
 use mathlib.Core.List.{List}
 use borrow.Author.Tests.{lt-ltb, le-ltb}
 use lib.Ieee.{Float}
@@ -8,23 +8,29 @@ use lib.ListN.{length}
 use lib.Seq.{sets}
 use Rattle.point.specs.declared.Point.{Point}
 use Rattle.floor.specs.declared.Refusal.{Refusal}
+use Rattle.floor.specs.declared.FloorLook.{FloorLook}
+use Rattle.floor.specs.declared.FloorLook.the-variants.{Accepted as Sound, Faulty}
+use Rattle.floor.specs.declared.Look.{Look}
 use Rattle.floor.specs.declared.Look.the-variants.{Inside, Refused as LookRefused}
-use Rattle.stored.specs.Stored.{Floor, floorOf, questionOf}
-use Rattle.floor.specs.Look.{lookOf}
+use Rattle.stored.specs.Stored.{Floor, floorOf, floorIn, questionOf}
+use Rattle.edges.specs.Ground.{Ground}
+use Rattle.floor.specs.Look.{floorLookOf, askOf}
+use Rattle.floor.proofs.Asking.{asked-inside}
 use Rattle.route.specs.declared.Judged.{Judged}
 use Rattle.route.specs.declared.Judged.the-variants.{Accepted, Length, NotSeed, NotStep, NotEnd}
 use Rattle.route.specs.World.{World}
 use Rattle.route.specs.Judge.{judgeOf}
 use Rattle.steps.specs.declared.Node.{Node}
-use Rattle.steps.specs.World.{worldIn, worldOf}
+use Rattle.steps.specs.declared.Trip.{Trip}
+use Rattle.steps.specs.World.{tripOf, worldIn, worldOf}
 use Rattle.judge.specs.declared.Verdict.{Verdict}
 use Rattle.judge.specs.declared.Verdict.the-variants.{Refused, Read}
 use Rattle.readout.specs.declared.Readout.{Readout}
 use Rattle.readout.specs.declared.Readout.the-variants.{Refused as Unread, Short, Listed}
-use Rattle.judge.specs.Verdict.{asked, verdictOf}
+use Rattle.judge.specs.Verdict.{judgedOn, verdictOf}
 use Rattle.readout.specs.Points.{pointsOf}
-use Rattle.readout.specs.Readout.{floatsOf, listed, listing, answerIf, outIf, routePoints, readoutOf, writtenOf}
-use Rattle.judge.proofs.Looking.{inside-tells}
+use Rattle.readout.specs.Readout.{floatsOf, listed, listing, answerIf, outIf, routePoints, readoutOn, writtenOn, readoutOf, writtenOf}
+use Rattle.judge.proofs.Looking.{judges-inside, judges-floor, judges-faulty}
 
 module _ (points : List Point) (out : List Float) (count : ℕ) (e : count ≡ length points) where
   pub short-is : length out < count * 2 → (Short ≡ listed points out) × (out ≡ listing points out)
@@ -57,39 +63,57 @@ module _ (x : Judged) (points : List Point) (out : List Float) where
   pub read-end : (i : ℕ) → x ≡ NotEnd i → (Unread (Read (NotEnd i)) ≡ answerIf (Read x) points out) × (out ≡ outIf (Read x) points out)
   read-end i e = (rw e, rw e)
 
--- ---- behind the door
+-- ---- the question
 
-module _ (s : ℕ) (vs ps question route : List ℕ) (out : List Float) where
+module _ {plan vs ps : List ℕ} (g : Ground plan vs ps) (question route : List ℕ) (out : List Float) {look : Look} (asked : look ≡ askOf (floorIn plan vs ps) question) where
   abbrev f : Floor
-  f = floorOf s vs ps
+  f = floorIn plan vs ps
 
-  pub read-refused : (refusal : Refusal) → lookOf s vs ps question ≡ LookRefused refusal
-      → (Unread (Refused refusal) ≡ readoutOf s vs ps question route out) × (out ≡ writtenOf s vs ps question route out)
-  unfolding readoutOf writtenOf verdictOf
-  read-refused refusal e = (rw e, rw e)
+  pub reads-refused : {r : Refusal} → look ≡ LookRefused r
+      → (Unread (Refused r) ≡ readoutOn f question route out) × (out ≡ writtenOn f question route out)
+  unfolding readoutOn writtenOn judgedOn
+  reads-refused e = (rw (← asked, e), rw (← asked, e))
 
-  module _ (from to : ℕ) (e : lookOf s vs ps question ≡ Inside from to) (start goal : Point) (a : start ≡ questionOf question .start) (b : goal ≡ questionOf question .goal) where
+  module _ {from to : ℕ} (e : look ≡ Inside from to) {trip : Trip} (t : trip ≡ tripOf (questionOf question) from to) where
     abbrev w : World Node
-    w = worldIn f (asked start goal) from to
+    w = worldIn f trip
+
+    same-verdict : Read (judgeOf w route) ≡ judgedOn f question route
+    same-verdict = judges-inside f question route asked e t refl
 
     same-world : w ≡ worldOf f (questionOf question)
     unfolding worldOf
     same-world =
-        let h = inside-tells s vs ps question from to e in
-        ap₂ (λ (x y : Point). worldIn f (asked x y) from to) a b ∙ ap₂ (λ (x y : ℕ). worldIn f (questionOf question) x y) (sym (h .from-is)) (sym (h .to-is))
+        let h = asked-inside g question (sym asked ∙ e) in
+        ap (worldIn f) t ∙ ap₂ (λ (x y : ℕ). worldIn f (tripOf (questionOf question) x y)) (sym (h .from-is)) (sym (h .to-is))
 
-    same-verdict : Read (judgeOf w route) ≡ verdictOf s vs ps question route
-    unfolding verdictOf
-    same-verdict = rw e (ap₂ (λ (x y : Point). Read (judgeOf (worldIn f (asked x y) from to) route)) a b)
-
-    same-points : pointsOf w goal route ≡ routePoints s vs ps question route out
+    same-points : pointsOf w (trip .goal) route ≡ routePoints f question route
     unfolding routePoints
-    same-points = ap₂ (λ (x : World Node) (y : Point). pointsOf x y route) same-world b
+    same-points = ap₂ (λ (x : World Node) (y : Point). pointsOf x y route) same-world (ap (λ (x : Trip). x .goal) t)
 
-    pub read-inside : (r : Readout) (out' : List Float) → r ≡ answerIf (Read (judgeOf w route)) (pointsOf w goal route) out → out' ≡ outIf (Read (judgeOf w route)) (pointsOf w goal route) out
-        → (r ≡ readoutOf s vs ps question route out) × (out' ≡ writtenOf s vs ps question route out)
-    unfolding readoutOf writtenOf
-    read-inside r out' c d = (
-      c ∙ ap₂ (λ (v : Verdict) (x : List Point). answerIf v x out) same-verdict same-points,
-      d ∙ ap₂ (λ (v : Verdict) (x : List Point). outIf v x out) same-verdict same-points,
+    pub reads-inside : {r : Readout} {out' : List Float}
+        → (r ≡ answerIf (Read (judgeOf w route)) (pointsOf w (trip .goal) route) out) × (out' ≡ outIf (Read (judgeOf w route)) (pointsOf w (trip .goal) route) out)
+        → (r ≡ readoutOn f question route out) × (out' ≡ writtenOn f question route out)
+    unfolding readoutOn writtenOn
+    reads-inside h = (
+      h .0 ∙ ap₂ (λ (v : Verdict) (x : List Point). answerIf v x out) same-verdict same-points,
+      h .1 ∙ ap₂ (λ (v : Verdict) (x : List Point). outIf v x out) same-verdict same-points,
     )
+
+-- ---- the floor
+
+module _ (slots : ℕ) (vs ps question route : List ℕ) (out : List Float) {look : FloorLook} (looked : look ≡ floorLookOf slots vs ps) where
+  pub reads-floor : look ≡ Sound → {r : Readout} {out' : List Float} {s : ℕ} → s ≡ slots
+      → (r ≡ readoutOn (floorOf s vs ps) question route out) × (out' ≡ writtenOn (floorOf s vs ps) question route out)
+      → (r ≡ readoutOf slots vs ps question route out) × (out' ≡ writtenOf slots vs ps question route out)
+  unfolding readoutOn writtenOn readoutOf writtenOf
+  reads-floor e s h =
+      let v = judges-floor slots vs ps question route looked e s refl in (
+        h .0 ∙ rw (s) (ap (λ (x : Verdict). answerIf x (routePoints (floorOf slots vs ps) question route) out) (rw s at v)),
+        h .1 ∙ rw (s) (ap (λ (x : Verdict). outIf x (routePoints (floorOf slots vs ps) question route) out) (rw s at v)),
+      )
+
+  pub reads-faulty : {r : Refusal} → look ≡ Faulty r
+      → (Unread (Refused r) ≡ readoutOf slots vs ps question route out) × (out ≡ writtenOf slots vs ps question route out)
+  unfolding readoutOf writtenOf
+  reads-faulty e = let v = judges-faulty slots vs ps question route looked e in (rw (← v), rw (← v))

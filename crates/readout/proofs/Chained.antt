@@ -1,5 +1,5 @@
--- The parent chain record by record, and what the listing loop keeps: the points that are left, put behind those that stand, are all the points. Rests on what the judge's
--- loop keeps (judge, proofs/Following) and on points in a slice (proofs/Placed). Assumes nothing.
+-- The parent chain record by record: what is known of an accepted file, and what one step adds to the points. Rests on points in a slice (proofs/Placed). Assumes
+-- nothing.
 use Prim.Native.Nat.{ℕ, suc, _+_, _-_, _*_, _/_, _≤_, _<_}
 use native.Mathlib.Omega.{arith}
 use mathlib.Core.Path.{_≡_, refl, sym, ap, ap₂, _∙_, subst}
@@ -20,13 +20,9 @@ use Rattle.route.specs.Judge.{lengthRight, sameBytes, findStep, judgeOf}
 use Rattle.route.proofs.Turns.{length-gives, begins-length, begins-wrong}
 use Rattle.steps.specs.declared.Node.{Node}
 use Rattle.steps.specs.Steps.{stepsFrom, seedNode, enter}
-use Rattle.steps.specs.World.{worldIn}
-use Rattle.judge.specs.Ready.{Ready}
-use Rattle.judge.specs.Verdict.{asked}
 use Rattle.readout.specs.Points.{chainFrom, chainOf, lastPoints, pointsAlong, pointsOf}
 use Rattle.readout.specs.Readout.{floatsOf, putPoint, putRoot}
 use Rattle.readout.proofs.Placed.{put-more, put-long}
-use Rattle.judge.proofs.Following.{seed-points, Follows, follows-on}
 
 -- ---- accepted: the length is right, and record 0 is the seed
 
@@ -64,9 +60,9 @@ module _ (w : World Node) (file : List ℕ) (node : Node) (i last : ℕ) where
 
 -- ---- one step's point
 
-module _ (f : Floor) (goal : Point) (node : Node) (t : Step) (rest : List Node) where
+module _ (vertices : List Point) (goal : Point) (node : Node) (t : Step) (rest : List Node) where
   abbrev next : Node
-  next = enter f node t
+  next = enter vertices node t
 
   points-kept : sameOf (next .root) (node .root) ≡ true → next .points ≡ node .points
   unfolding enter
@@ -130,90 +126,3 @@ module _ (f : Floor) (goal : Point) (node : Node) (t : Step) (rest : List Node) 
 pub along-end : (goal : Point) (node : Node) → pointsAlong goal node [] ≡ lastPoints goal node
 unfolding pointsAlong
 along-end goal node = refl
-
--- ---- what the loop keeps
-
-module _ (s : ℕ) (vs ps : List ℕ) (goal : Point) (from to : ℕ) (file : List ℕ) where
-  abbrev f : Floor
-  f = floorOf s vs ps
-
-  abbrev w : Point → World Node
-  w start = worldIn f (asked start goal) from to
-
-  abbrev last : ℕ
-  last = length file / 32 - 1
-
-  -- the points from a node on
-  abbrev left : Point → Node → ℕ → List Point
-  left start node i = pointsAlong goal node (chainFrom (w start) file node i (last - i))
-
-  pub record Places (first : Node) (out₀ : List Float) (out : List Float) (node : Node) (i : ℕ) : Type 0 where
-    pub follows : Follows s vs ps goal from to file last first node i
-    pub long : length out ≡ length out₀
-    pub placed : (start : Point) → sets out (node .points * 2) (floatsOf (left start node i)) ≡ sets out₀ (first .points * 2) (floatsOf (left start first 1))
-    pub count : (start : Point) → node .points + length (left start node i) ≡ first .points + length (left start first 1)
-
-  pub places-begin : (out : List Float) (node : Node) → Follows s vs ps goal from to file last node node 1 → Places node out out node 1
-  places-begin out node h = record { follows = h; long = refl; placed = λ start. refl; count = λ start. refl }
-
-  module _ (marks : List ℕ) (ready : Ready s vs ps marks) (first : Node) (out₀ out : List Float) (node : Node) (i : ℕ) (h : Places first out₀ out node i) where
-    module _ (t : Step) (l : i < last) (e : findStep (stepsFrom f to node) (recordAt file i) ≡ Found t) where
-      left-is : (start : Point) → left start node i ≡ pointsAlong goal node (enter f node t ∷ chainFrom (w start) file (enter f node t) (i + 1) (last - (i + 1)))
-      unfolding worldIn
-      left-is start = ap (pointsAlong goal node) (chain-step (w start) file node i last t l e)
-
-      pub places-on : (next : Node) (out' : List Float) → next ≡ enter f node t → out' ≡ putRoot out node next → Places first out₀ out' next (i + 1)
-      places-on next out' k d = subst (λ (n : Node). Places first out₀ out' n (i + 1)) (sym k) (subst (λ (o : List Float). Places first out₀ o (enter f node t) (i + 1)) (sym (d ∙ ap (putRoot out node) k)) (record {
-        follows = follows-on s vs ps marks ready goal from to file first node i (h .follows) t (enter f node t) l e refl;
-        long = step-long f goal node t [] out ∙ h .long;
-        placed = λ start.
-            step-places f goal node t (chainFrom (w start) file (enter f node t) (i + 1) (last - (i + 1))) out
-            ∙ ap (λ (x : List Point). sets out (node .points * 2) (floatsOf x)) (sym (left-is start))
-            ∙ h .placed start;
-        count = λ start.
-            step-counts f goal node t (chainFrom (w start) file (enter f node t) (i + 1) (last - (i + 1)))
-            ∙ ap (λ (x : List Point). node .points + length x) (sym (left-is start))
-            ∙ h .count start;
-      }))
-
-      -- where the root is another one, there is a place for it
-      pub place-for-root : (start : Point) (next : Node) → next ≡ enter f node t → (first .points + length (left start first 1)) * 2 ≤ length out₀
-          → sameOf (next .root) (node .root) ≡ false → node .points * 2 + 2 ≤ length out
-      place-for-root start next k room c =
-          let some : 1 ≤ length (left start node i) = subst (λ (x : List Point). 1 ≤ length x) (sym (left-is start)) (some-point f goal node t (chainFrom (w start) file (enter f node t) (i + 1) (last - (i + 1))) (subst (λ (n : Node). sameOf (n .root) (node .root) ≡ false) k c)) in
-          omega (arith, some, room, h .count start, h .long)
-
-    -- the last points
-    module _ (l : last ≤ i) where
-      end-is : (start : Point) → left start node i ≡ lastPoints goal node
-      end-is start = ap (pointsAlong goal node) (chain-end (w start) file node i last l) ∙ along-end goal node
-
-      pub place-for-last : (start : Point) → (first .points + length (left start first 1)) * 2 ≤ length out₀ → (node .points + length (lastPoints goal node)) * 2 ≤ length out
-      place-for-last start room =
-          let n : length (left start node i) ≡ length (lastPoints goal node) = ap length (end-is start) in
-          omega (arith, n, room, h .count start, h .long)
-
-      pub places-end : (start : Point) (out' : List Float) → out' ≡ sets out (node .points * 2) (floatsOf (lastPoints goal node)) → out' ≡ sets out₀ (first .points * 2) (floatsOf (left start first 1))
-      places-end start out' d = d ∙ ap (λ (x : List Point). sets out (node .points * 2) (floatsOf x)) (sym (end-is start)) ∙ h .placed start
-
-  -- all the points
-  pub all-points : (start : Point) (first : Node) → lengthRight file ≡ true → first ≡ seedNode start from → left start first 1 ≡ pointsOf (w start) goal file
-  unfolding pointsOf chainOf records worldIn
-  all-points start first r e =
-      let g = length-gives file r in
-      let n : last - 1 ≡ length file / 32 - 2 = omega arith in
-      rw (e, n)
-
-  pub first-points : (start : Point) (first : Node) → first ≡ seedNode start from → first .points ≡ 0
-  first-points start first e = ap (λ (n : Node). n .points) e ∙ seed-points start from
-
-  module _ (start : Point) (first : Node) (r : lengthRight file ≡ true) (e : first ≡ seedNode start from) where
-    pub room-for-all : (n : ℕ) → length (pointsOf (w start) goal file) * 2 ≤ n → (first .points + length (left start first 1)) * 2 ≤ n
-    room-for-all n h =
-        let k : length (left start first 1) ≡ length (pointsOf (w start) goal file) = ap length (all-points start first r e) in
-        omega (arith, h, k, first-points start first e)
-
-    pub all-placed : (out : List Float) → sets out (first .points * 2) (floatsOf (left start first 1)) ≡ sets out 0 (floatsOf (pointsOf (w start) goal file))
-    all-placed out =
-        let z : first .points * 2 ≡ 0 = omega (arith, first-points start first e) in
-        ap₂ (λ (k : ℕ) (l : List Point). sets out k (floatsOf l)) z (all-points start first r e)

@@ -28,10 +28,11 @@ use Rattle.route.specs.Judge.{sameBytes, findStep, onwards, judgeEnd, judgeFrom
 use Rattle.route.proofs.Find.{same-true}
 use Rattle.route.proofs.Trails.{same-parts}
 use Rattle.route.proofs.Turns.{length-gives, begins}
+use Rattle.records.specs.Records.{pointsWord}
 use Rattle.steps.specs.declared.Node.{Node}
+use Rattle.steps.specs.declared.Trip.{Trip}
 use Rattle.steps.specs.Steps.{stepsFrom, seedNode, enter}
 use Rattle.steps.specs.World.{lastLeg, endingOf, worldIn}
-use Rattle.judge.specs.Verdict.{asked}
 use Rattle.readout.specs.Points.{onto, chainFrom, chainOf, goingRound, lastPoints, pointsAlong, pointsOf}
 use Rattle.judge.proofs.Following.{seed-points}
 use Rattle.readout.proofs.Chained.{accepted-length, accepted-seed, along-end, step-counts}
@@ -106,32 +107,38 @@ module _ (goal : Point) (node : Node) where
       go true t = refl
       go false t = round t
 
-module _ (f : Floor) (goal start : Point) (from to : ℕ) (file : List ℕ) where
+module _ (f : Floor) (trip : Trip) (file : List ℕ) where
   abbrev w : World Node
-  w = worldIn f (asked start goal) from to
+  w = worldIn f trip
+
+  abbrev goal : Point
+  goal = trip .goal
+
+  abbrev into : Node → Step → Node
+  into = enter (f .vertices)
 
   pub chain-count : (left : ℕ) (node : Node) (i : ℕ)
       → endingOf goal (lastOf node (chainFrom w file node i left)) .points ≡ node .points + length (pointsAlong goal node (chainFrom w file node i left))
   unfolding chainFrom lastOf worldIn
   chain-count zero node i = last-count goal node ∙ ap (λ (l : List Point). node .points + length l) (sym (along-end goal node))
-  chain-count (suc left) node i = go (findStep (stepsFrom f to node) (recordAt file i)) (λ t. chain-count left (enter f node t) (i + 1))
+  chain-count (suc left) node i = go (findStep (stepsFrom f (trip .to) node) (recordAt file i)) (λ t. chain-count left (into node t) (i + 1))
     where
-      go : (x : Sought) → ((t : Step) → endingOf goal (lastOf (enter f node t) (chainFrom w file (enter f node t) (i + 1) left)) .points ≡ enter f node t .points + length (pointsAlong goal (enter f node t) (chainFrom w file (enter f node t) (i + 1) left)))
-          → endingOf goal (lastOf node (onto x (λ t. enter f node t ∷ chainFrom w file (enter f node t) (i + 1) left))) .points
-          ≡ node .points + length (pointsAlong goal node (onto x (λ t. enter f node t ∷ chainFrom w file (enter f node t) (i + 1) left)))
-      go (Found t) below = below t ∙ step-counts f goal node t (chainFrom w file (enter f node t) (i + 1) left)
+      go : (x : Sought) → ((t : Step) → endingOf goal (lastOf (into node t) (chainFrom w file (into node t) (i + 1) left)) .points ≡ into node t .points + length (pointsAlong goal (into node t) (chainFrom w file (into node t) (i + 1) left)))
+          → endingOf goal (lastOf node (onto x (λ t. into node t ∷ chainFrom w file (into node t) (i + 1) left))) .points
+          ≡ node .points + length (pointsAlong goal node (onto x (λ t. into node t ∷ chainFrom w file (into node t) (i + 1) left)))
+      go (Found t) below = below t ∙ step-counts (f .vertices) goal node t (chainFrom w file (into node t) (i + 1) left)
       go Missing below = last-count goal node ∙ ap (λ (l : List Point). node .points + length l) (sym (along-end goal node))
 
   pub route-count : endingOf goal (lastOf (w .seed) (chainOf w file)) .points ≡ length (pointsOf w goal file)
   unfolding chainOf pointsOf worldIn
-  route-count = chain-count (records file - 2) (seedNode start from) 1 ∙ omega (arith, seed-points start from)
+  route-count = chain-count (records file - 2) (seedNode (trip .start) (trip .from)) 1 ∙ omega (arith, seed-points (trip .start) (trip .from))
 
 -- the last record of an accepted file
-pub end-bytes-of : (f : Floor) (goal start : Point) (from to : ℕ) (file : List ℕ) → judgeOf (worldIn f (asked start goal) from to) file ≡ Accepted
-    → recordAt file (length file / 32 - 1)
-    ≡ endBytes (endingOf goal (lastOf (worldIn f (asked start goal) from to .seed) (chainOf (worldIn f (asked start goal) from to) file)) .points) goal (endingOf goal (lastOf (worldIn f (asked start goal) from to .seed) (chainOf (worldIn f (asked start goal) from to) file)) .length)
+pub end-bytes-of : (f : Floor) (trip : Trip) (file : List ℕ) → let w = worldIn f trip in judgeOf w file ≡ Accepted
+    → let ending = endingOf (trip .goal) (lastOf (w .seed) (chainOf w file)) in
+    recordAt file (length file / 32 - 1) ≡ endBytes (ending .points) (trip .goal) (ending .length)
 unfolding worldIn
-end-bytes-of f goal start from to file e = end-of-file (worldIn f (asked start goal) from to) file e
+end-bytes-of f trip file e = end-of-file (worldIn f trip) file e
 
 -- ---- the count in the bytes
 
@@ -181,14 +188,13 @@ unfolding pointsOf chainOf records
 points-few w goal file = omega (arith, along-few goal (w .seed) (chainFrom w file (w .seed) 1 (length file / 32 - 2)), chain-few w file (length file / 32 - 2) (w .seed) 1)
 
 -- the number of points, where the code reads it
-pub count-is-written : (f : Floor) (goal start : Point) (from to : ℕ) (file : List ℕ) → judgeOf (worldIn f (asked start goal) from to) file ≡ Accepted
-    → wordAt file (length file - 28) ≡ length (pointsOf (worldIn f (asked start goal) from to) goal file)
-unfolding recordAt
-count-is-written f goal start from to file e =
-    let w = worldIn f (asked start goal) from to in
+pub count-is-written : (f : Floor) (trip : Trip) (file : List ℕ) → judgeOf (worldIn f trip) file ≡ Accepted
+    → pointsWord file (records file - 1) ≡ length (pointsOf (worldIn f trip) (trip .goal) file)
+unfolding recordAt records
+count-is-written f trip file e =
+    let w = worldIn f trip in
     let g = length-gives file (accepted-length w file e) in
-    let n = endingOf goal (lastOf (w .seed) (chainOf w file)) in
-    let count = route-count f goal start from to file in
-    let at : length file - 28 ≡ (length file / 32 - 1) * 32 + 4 = omega arith in
-    let small : n .points < 2 ^ 32 = omega (arith, count, points-few w goal file, g) in
-    ap (wordAt file) at ∙ end-word file ((length file / 32 - 1) * 32) (n .points) goal (n .length) (omega arith) small (end-bytes-of f goal start from to file e) ∙ count
+    let n = endingOf (trip .goal) (lastOf (w .seed) (chainOf w file)) in
+    let count = route-count f trip file in
+    let small : n .points < 2 ^ 32 = omega (arith, count, points-few w (trip .goal) file, g) in
+    end-word file ((length file / 32 - 1) * 32) (n .points) (trip .goal) (n .length) (omega arith) small (end-bytes-of f trip file e) ∙ count

@@ -16,7 +16,7 @@ use Rattle.point.specs.Point.{pointOf, fromBitsOf, sameOf, plusOf, distanceOf}
 use Rattle.helpers.specs.Helpers.{turningPointOf}
 use Rattle.cut.specs.declared.SuccessorType.{SuccessorType}
 use Rattle.cut.specs.declared.SuccessorType.the-variants.{LeftNonObservable, Observable, RightNonObservable}
-use Rattle.stored.specs.Stored.{vertexIn, Floor, floorOf, questionOf, vertex}
+use Rattle.stored.specs.Stored.{Floor, floorOf, questionOf, vertexIn}
 use Rattle.edges.specs.Where.{polygonOf}
 use Rattle.route.specs.declared.Step.{Step}
 use Rattle.route.specs.declared.Sought.{Sought}
@@ -28,9 +28,9 @@ use Rattle.route.specs.World.{World, TrueRoute}
 use Rattle.route.specs.Judge.{findStep, judgeOf}
 use Rattle.route.proofs.Verdicts.{accepted-exactly}
 use Rattle.steps.specs.declared.Node.{Node}
+use Rattle.steps.specs.declared.Trip.{Trip}
 use Rattle.steps.specs.Steps.{rootAfter, stepsFrom, seedNode, enter}
-use Rattle.steps.specs.World.{lastLeg, endingOf, worldIn, worldOf}
-use Rattle.judge.specs.Verdict.{asked}
+use Rattle.steps.specs.World.{lastLeg, endingOf, tripOf, worldIn, worldOf}
 use Rattle.readout.specs.Points.{onto, chainFrom, chainOf, goingRound, lastPoints, pointsAlong, pointsOf, lengthFrom, lengthOf, EndCarries}
 use Rattle.readout.proofs.Chained.{along-end, along-kept, along-more}
 use Rattle.readout.proofs.Ended.{lastOf, end-bytes-of, route-count}
@@ -39,18 +39,18 @@ use Rattle.judge.proofs.Exact.{world-is-lawful}
 
 -- ---- roots are f32
 
-vertex-held : (f : Floor) (v : ℕ) → HeldPoint (vertex f v)
+vertex-held : (vertices : List Point) (v : ℕ) → HeldPoint (vertexIn vertices v)
 unfolding vertexIn plusOf
-vertex-held f v = record { x-held = add-fits binary32 _ _; y-held = add-fits binary32 _ _ }
+vertex-held vertices v = record { x-held = add-fits binary32 _ _; y-held = add-fits binary32 _ _ }
 
-root-held : (f : Floor) (node : Node) (t : Step) → HeldPoint (node .root) → HeldPoint (enter f node t .root)
+root-held : (vertices : List Point) (node : Node) (t : Step) → HeldPoint (node .root) → HeldPoint (enter vertices node t .root)
 unfolding enter rootAfter
-root-held f node t h = go (t .kind)
+root-held vertices node t h = go (t .kind)
   where
-    go : (k : SuccessorType) → HeldPoint (rootAfter f node k)
+    go : (k : SuccessorType) → HeldPoint (rootAfter vertices node k)
     go Observable = h
-    go RightNonObservable = vertex-held f (node .first)
-    go LeftNonObservable = vertex-held f (node .second)
+    go RightNonObservable = vertex-held vertices (node .first)
+    go LeftNonObservable = vertex-held vertices (node .second)
 
 -- ---- the sum of the points from a node on, after the way to it
 
@@ -67,9 +67,9 @@ module _ (goal : Point) (node : Node) where
       go true t = refl
       go false t = round t
 
-module _ (f : Floor) (goal : Point) (node : Node) (t : Step) (rest : List Node) where
+module _ (vertices : List Point) (goal : Point) (node : Node) (t : Step) (rest : List Node) where
   abbrev next : Node
-  next = enter f node t
+  next = enter vertices node t
 
   length-kept : sameOf (next .root) (node .root) ≡ true → next .length ≡ node .length
   unfolding enter
@@ -88,41 +88,50 @@ module _ (f : Floor) (goal : Point) (node : Node) (t : Step) (rest : List Node) 
     where
       go : (b : Bool) → sameOf (next .root) (node .root) ≡ b → lengthFrom (next .length) (next .root) (pointsAlong goal next rest) ≡ lengthFrom (node .length) (node .root) (pointsAlong goal node (next ∷ rest))
       go true e =
-          same-sum (next .length) (next .root) (node .root) (pointsAlong goal next rest) (root-held f node t h) h e
-          ∙ ap₂ (λ (d : Float) (l : List Point). lengthFrom d (node .root) l) (length-kept e) (sym (along-kept f goal node t rest e))
+          same-sum (next .length) (next .root) (node .root) (pointsAlong goal next rest) (root-held vertices node t h) h e
+          ∙ ap₂ (λ (d : Float) (l : List Point). lengthFrom d (node .root) l) (length-kept e) (sym (along-kept vertices goal node t rest e))
       go false e =
           ap (λ (d : Float). lengthFrom d (next .root) (pointsAlong goal next rest)) (length-more e)
           ∙ first-leg (next .root) (pointsAlong goal next rest)
-          ∙ ap (lengthFrom (node .length) (node .root)) (sym (along-more f goal node t rest e))
+          ∙ ap (lengthFrom (node .length) (node .root)) (sym (along-more vertices goal node t rest e))
 
-module _ (f : Floor) (goal start : Point) (from to : ℕ) (file : List ℕ) where
+module _ (f : Floor) (trip : Trip) (file : List ℕ) where
   abbrev w : World Node
-  w = worldIn f (asked start goal) from to
+  w = worldIn f trip
+
+  abbrev goal : Point
+  goal = trip .goal
+
+  abbrev seed : Node
+  seed = seedNode (trip .start) (trip .from)
+
+  abbrev into : Node → Step → Node
+  into = enter (f .vertices)
 
   chain-sum : (left : ℕ) (node : Node) (i : ℕ) → HeldPoint (node .root)
       → endingOf goal (lastOf node (chainFrom w file node i left)) .length ≡ lengthFrom (node .length) (node .root) (pointsAlong goal node (chainFrom w file node i left))
   unfolding chainFrom lastOf worldIn
   chain-sum zero node i h = last-sum goal node ∙ ap (lengthFrom (node .length) (node .root)) (sym (along-end goal node))
-  chain-sum (suc left) node i h = go (findStep (stepsFrom f to node) (recordAt file i)) (λ t. chain-sum left (enter f node t) (i + 1) (root-held f node t h))
+  chain-sum (suc left) node i h = go (findStep (stepsFrom f (trip .to) node) (recordAt file i)) (λ t. chain-sum left (into node t) (i + 1) (root-held (f .vertices) node t h))
     where
       go : (x : Sought)
-          → ((t : Step) → endingOf goal (lastOf (enter f node t) (chainFrom w file (enter f node t) (i + 1) left)) .length ≡ lengthFrom (enter f node t .length) (enter f node t .root) (pointsAlong goal (enter f node t) (chainFrom w file (enter f node t) (i + 1) left)))
-          → endingOf goal (lastOf node (onto x (λ t. enter f node t ∷ chainFrom w file (enter f node t) (i + 1) left))) .length
-          ≡ lengthFrom (node .length) (node .root) (pointsAlong goal node (onto x (λ t. enter f node t ∷ chainFrom w file (enter f node t) (i + 1) left)))
-      go (Found t) below = below t ∙ step-sums f goal node t (chainFrom w file (enter f node t) (i + 1) left) h
+          → ((t : Step) → endingOf goal (lastOf (into node t) (chainFrom w file (into node t) (i + 1) left)) .length ≡ lengthFrom (into node t .length) (into node t .root) (pointsAlong goal (into node t) (chainFrom w file (into node t) (i + 1) left)))
+          → endingOf goal (lastOf node (onto x (λ t. into node t ∷ chainFrom w file (into node t) (i + 1) left))) .length
+          ≡ lengthFrom (node .length) (node .root) (pointsAlong goal node (onto x (λ t. into node t ∷ chainFrom w file (into node t) (i + 1) left)))
+      go (Found t) below = below t ∙ step-sums (f .vertices) goal node t (chainFrom w file (into node t) (i + 1) left) h
       go Missing below = last-sum goal node ∙ ap (lengthFrom (node .length) (node .root)) (sym (along-end goal node))
 
-  seed-held : HeldPoint start → HeldPoint (seedNode start from .root)
+  seed-held : HeldPoint (trip .start) → HeldPoint (seed .root)
   unfolding seedNode
   seed-held h = h
 
-  seed-sum : (points : List Point) → lengthFrom (seedNode start from .length) (seedNode start from .root) points ≡ lengthOf start points
+  seed-sum : (points : List Point) → lengthFrom (seed .length) (seed .root) points ≡ lengthOf (trip .start) points
   unfolding seedNode lengthOf
   seed-sum points = refl
 
-  pub route-sum : HeldPoint start → endingOf goal (lastOf (w .seed) (chainOf w file)) .length ≡ lengthOf start (pointsOf w goal file)
+  pub route-sum : HeldPoint (trip .start) → endingOf goal (lastOf (w .seed) (chainOf w file)) .length ≡ lengthOf (trip .start) (pointsOf w goal file)
   unfolding chainOf pointsOf worldIn
-  route-sum h = chain-sum (records file - 2) (seedNode start from) 1 (seed-held h) ∙ seed-sum _
+  route-sum h = chain-sum (records file - 2) seed 1 (seed-held h) ∙ seed-sum _
 
 -- ---- the end record
 
@@ -141,10 +150,9 @@ unfolding worldOf
 end-carries s vs ps question file e =
     let f = floorOf s vs ps in
     let q = questionOf question in
-    let from = polygonOf f (q .start) in
-    let to = polygonOf f (q .goal) in
-    end-bytes-of f (q .goal) (q .start) from to file e
-    ∙ ap₂ (λ (n : ℕ) (l : Float). endBytes n (q .goal) l) (route-count f (q .goal) (q .start) from to file) (route-sum f (q .goal) (q .start) from to file (start-held question))
+    let trip = tripOf q (polygonOf f (q .start)) (polygonOf f (q .goal)) in
+    end-bytes-of f trip file e
+    ∙ ap₂ (λ (n : ℕ) (l : Float). endBytes n (q .goal) l) (route-count f trip file) (route-sum f trip file (start-held question))
 
 -- the same of a true route
 pub route-carries : (s : ℕ) (vs ps question file : List ℕ) → Bytes ps → TrueRoute (worldOf (floorOf s vs ps) (questionOf question)) file

@@ -2,6 +2,7 @@
 pub mod Placed
 pub mod Chained
 pub mod Ended
+pub mod Listing
 pub mod Answered
 pub mod Legs
 pub mod Lengths

@@ -12,7 +12,7 @@ use Rattle.told.specs.declared.Told.the-variants.{Alone, WithCount}
 use Rattle.told.specs.Told.{numberOf, valuesOf}
 use Rattle.point.specs.declared.Point.{Point}
 use Rattle.point.specs.Point.{sameOf}
-use Rattle.stored.specs.Stored.{floorOf, questionOf}
+use Rattle.stored.specs.Stored.{Floor, floorOf, questionOf}
 use Rattle.route.specs.declared.Judged.the-variants.{Accepted, Length, NotSeed, NotStep, NotEnd}
 use Rattle.steps.specs.declared.Node.{Node}
 use Rattle.steps.specs.World.{worldOf}
@@ -20,7 +20,7 @@ use Rattle.judge.specs.declared.Verdict.{Verdict}
 use Rattle.judge.specs.declared.Verdict.the-variants.{Refused, Read}
 use Rattle.readout.specs.declared.Readout.{Readout}
 use Rattle.readout.specs.declared.Readout.the-variants.{Refused as Unread, Short, Listed}
-use Rattle.judge.specs.Verdict.{verdictOf, verdictTold}
+use Rattle.judge.specs.Verdict.{judgedOn, verdictOf, verdictTold}
 use Rattle.readout.specs.Points.{pointsOf}
 
 -- ---- points in a slice: x, y of each
@@ -62,16 +62,24 @@ outIf (Read (NotStep i)) points out = out
 outIf (Read (NotEnd i)) points out = out
 outIf (Refused refusal) points out = out
 
-module _ (slots : ℕ) (vertices polygons question route : List ℕ) (out : List Float) where
-  -- the points of the route in the floor's world
-  unfoldable pub routePoints : List Point
-  routePoints = pointsOf (worldOf (floorOf slots vertices polygons) (questionOf question)) (questionOf question .goal) route
+-- the points of the route in the floor's world
+unfoldable pub routePoints : Floor → List ℕ → List ℕ → List Point
+routePoints f question route = pointsOf (worldOf f (questionOf question)) (questionOf question .goal) route
 
+-- one question of a floor that was accepted
+module _ (f : Floor) (question route : List ℕ) (out : List Float) where
+  unfoldable pub readoutOn : Readout
+  readoutOn = answerIf (judgedOn f question route) (routePoints f question route) out
+
+  unfoldable pub writtenOn : List Float
+  writtenOn = outIf (judgedOn f question route) (routePoints f question route) out
+
+module _ (slots : ℕ) (vertices polygons question route : List ℕ) (out : List Float) where
   unfoldable pub readoutOf : Readout
-  readoutOf = answerIf (verdictOf slots vertices polygons question route) routePoints out
+  readoutOf = answerIf (verdictOf slots vertices polygons question route) (routePoints (floorOf slots vertices polygons) question route) out
 
   unfoldable pub writtenOf : List Float
-  writtenOf = outIf (verdictOf slots vertices polygons question route) routePoints out
+  writtenOf = outIf (verdictOf slots vertices polygons question route) (routePoints (floorOf slots vertices polygons) question route) out
 
 -- ---- what is told of each answer: the table's number, and "the read-out returns on 0 the number of points"
 

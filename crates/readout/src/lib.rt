@@ -1,31 +1,31 @@
 // The read-out: judges, then lists the points of an accepted route, walking its records a second time.
 
 ghost use mathlib.Core.Path.{_≡_};
-ghost use Prim.Native.Nat.{_+_, _-_, _*_, _/_, _≤_, _<_};
+ghost use Prim.Native.Nat.{_+_, _*_, _≤_, _<_};
 ghost use mathlib.Core.Bool.{false};
 ghost use lib.ListN.{length};
 ghost use lib.Seq.{sets};
 ghost use Rattle.point.specs.Point.{sameOf};
-ghost use Rattle.stored.specs.Stored.{floorOf};
-ghost use Rattle.edges.specs.Where.{marksOf};
-ghost use Rattle.route.specs.declared.Judged.the-variants.{Accepted};
+ghost use Rattle.plan.specs.Plan.{polygonCountIn};
+ghost use Rattle.stored.specs.Stored.{verticesOf, floorIn};
+ghost use Rattle.edges.specs.Ground.{Ground};
 ghost use Rattle.route.specs.Judge.{judgeOf};
 ghost use Rattle.steps.specs.World.{worldIn};
-ghost use Rattle.word.specs.Word.{wordAt};
 ghost use Rattle.judge.specs.declared.Verdict.the-variants.{Read};
-ghost use Rattle.judge.specs.Ready.{Ready};
-ghost use Rattle.judge.specs.Verdict.{asked};
 ghost use Rattle.readout.specs.Points.{lastPoints, pointsOf};
-ghost use Rattle.readout.specs.Readout.{floatsOf, putPoint, putRoot, listed, listing, answerIf, outIf, readoutOf, writtenOf, readoutTold};
+ghost use Rattle.readout.specs.ReadOff.{pointsRead, Readable};
+ghost use Rattle.readout.specs.Readout.{floatsOf, putPoint, putRoot, listed, listing, answerIf, outIf, readoutOn, writtenOn, readoutOf, writtenOf, readoutTold};
+use floor::FloorLook;
 use floor::Look;
-use floor::SLOTS;
 use helpers::Turn;
 use judge::Verdict;
 use judge::judge_route;
+use plan::PLAN;
 use point::Point;
 use records::Record;
 use route::Judged;
 use steps::Node;
+use steps::Trip;
 use told::Told;
 
 // What a read-out answers.
@@ -83,140 +83,97 @@ fn put_last(points: &mut [f32], node: Node, goal: Point)
 
 // The points of a route that was accepted, for which there is room. The judge has found every middle record to be a step, so the step is
 // read off it.
-fn list_points(
-    vertices: &[u8],
-    polygons: &[u8],
-    slots: usize,
-    start: Point,
-    goal: Point,
-    from: u32,
-    to: u32,
-    route: &[u8],
-    points: &mut [f32],
-)
-    requires { ⌜ Ready slots (now vertices) (now polygons) (marksOf (floorOf slots (now vertices) (now polygons))) × (from < length (now polygons) / (slots * 8)) ⌝ }
-    requires { ⌜ judgeOf (worldIn (floorOf slots (now vertices) (now polygons)) (asked start goal) from to) (now route) ≡ Accepted ⌝ }
-    requires { ⌜ length (pointsOf (worldIn (floorOf slots (now vertices) (now polygons)) (asked start goal) from to) goal (now route)) * 2 ≤ length (now points) ⌝ }
-    ensures { λ _. ⌜ now (points .exit) ≡ sets (now (points .entry)) 0 (floatsOf (pointsOf (worldIn (floorOf slots (now (vertices .entry)) (now (polygons .entry))) (asked start goal) from to) goal (now (route .entry)))) ⌝ }
+fn list_points(vertices: &[u8], trip: Trip, route: &[u8], points: &mut [f32])
+    requires { ⌜ Readable (verticesOf (now vertices)) trip (now route) ⌝ }
+    requires { ⌜ length (pointsRead (verticesOf (now vertices)) trip (now route)) * 2 ≤ length (now points) ⌝ }
+    ensures { λ _.
+        let route-points = pointsRead (verticesOf (now (vertices .entry))) trip (now (route .entry)) in
+        ⌜ now (points .exit) ≡ sets (now (points .entry)) 0 (floatsOf route-points) ⌝ }
 {
     let last = route.len() / Record::BYTES - 1;
-    let mut node = Node::seed(start, from);
+    let mut node = Node::seed(trip.start, trip.from);
     let mut i = 1;
     while i < last {
         let step = records::step_in(route, i);
-        let next = node.enter(vertices, polygons, slots, step);
+        let next = node.enter(vertices, step);
         put_root(points, node, next);
         node = next;
         i += 1;
     }
-    put_last(points, node, goal);
+    put_last(points, node, trip.goal);
 }
 
-// How many points the end record says that a route has: the judge has compared it.
-fn point_count(route: &[u8]) -> usize
-    requires { ⌜ (2 ≤ length (now route) / 32) × (length (now route) ≡ length (now route) / 32 * 32) ⌝ }
-    ensures { λ r. ⌜ r ≡ wordAt (now (route .entry)) (length (now (route .entry)) - 28) ⌝ }
+// Lists the points of a route that was accepted, unless the slice is too short. Its end record says how many they are: the judge has
+// compared it.
+fn list_route(vertices: &[u8], trip: Trip, route: &[u8], points: &mut [f32]) -> Readout
+    requires { ⌜ Readable (verticesOf (now vertices)) trip (now route) ⌝ }
+    ensures { λ r.
+        let route-points = pointsRead (verticesOf (now (vertices .entry))) trip (now (route .entry)) in
+        ⌜ r ≡ listed route-points (now (points .entry)) ⌝ }
+    ensures { λ _.
+        let route-points = pointsRead (verticesOf (now (vertices .entry))) trip (now (route .entry)) in
+        ⌜ now (points .exit) ≡ listing route-points (now (points .entry)) ⌝ }
 {
-    word::read(route, route.len() - 28) as usize
-}
-
-// Lists the points of a route that was accepted, unless the slice is too short.
-fn list_route(
-    vertices: &[u8],
-    polygons: &[u8],
-    slots: usize,
-    start: Point,
-    goal: Point,
-    from: u32,
-    to: u32,
-    route: &[u8],
-    points: &mut [f32],
-) -> Readout
-    requires { ⌜ Ready slots (now vertices) (now polygons) (marksOf (floorOf slots (now vertices) (now polygons))) × (from < length (now polygons) / (slots * 8)) ⌝ }
-    requires { ⌜ judgeOf (worldIn (floorOf slots (now vertices) (now polygons)) (asked start goal) from to) (now route) ≡ Accepted ⌝ }
-    ensures { λ r. ⌜ r ≡ listed (pointsOf (worldIn (floorOf slots (now (vertices .entry)) (now (polygons .entry))) (asked start goal) from to) goal (now (route .entry))) (now (points .entry)) ⌝ }
-    ensures { λ _. ⌜ now (points .exit) ≡ listing (pointsOf (worldIn (floorOf slots (now (vertices .entry)) (now (polygons .entry))) (asked start goal) from to) goal (now (route .entry))) (now (points .entry)) ⌝ }
-{
-    let count = point_count(route);
+    let last = route.len() / Record::BYTES - 1;
+    let count = records::points_at(route, last) as usize;
     if points.len() < count * 2 {
         return Readout::Short;
     }
-    list_points(
-        vertices,
-        polygons,
-        slots,
-        start,
-        goal,
-        from,
-        to,
-        route,
-        points,
-    );
+    list_points(vertices, trip, route, points);
     Readout::Listed(count)
 }
 
-// Judges a route. The marks stand in a function of their own, since they are done with when the points are listed, and their room
-// is free.
-fn judge_marked(
-    vertices: &[u8],
-    polygons: &[u8],
-    slots: usize,
-    start: Point,
-    goal: Point,
-    from: u32,
-    to: u32,
-    route: &[u8],
-) -> Judged
-    requires { ⌜ Ready slots (now vertices) (now polygons) (marksOf (floorOf slots (now vertices) (now polygons))) × (from < length (now polygons) / (slots * 8)) ⌝ }
-    ensures { λ r. ⌜ r ≡ judgeOf (worldIn (floorOf slots (now (vertices .entry)) (now (polygons .entry))) (asked start goal) from to) (now (route .entry)) ⌝ }
-{
-    let marks = edges::turns::turn_vertices(vertices, polygons, slots);
-    judge_route(
-        vertices,
-        polygons,
-        slots,
-        &marks,
-        start,
-        goal,
-        from,
-        to,
-        route,
-    )
-}
-
-// Judges a route, then lists its points.
+// Judges the route of this trip, then lists its points.
 fn read_route(
     vertices: &[u8],
     polygons: &[u8],
-    slots: usize,
-    start: Point,
-    goal: Point,
-    from: u32,
-    to: u32,
+    plan: &[u32; PLAN],
+    trip: Trip,
     route: &[u8],
     points: &mut [f32],
 ) -> Readout
-    requires { ⌜ Ready slots (now vertices) (now polygons) (marksOf (floorOf slots (now vertices) (now polygons))) × (from < length (now polygons) / (slots * 8)) ⌝ }
-    ensures { λ r. ⌜ r ≡ answerIf (Read (judgeOf (worldIn (floorOf slots (now (vertices .entry)) (now (polygons .entry))) (asked start goal) from to) (now (route .entry)))) (pointsOf (worldIn (floorOf slots (now (vertices .entry)) (now (polygons .entry))) (asked start goal) from to) goal (now (route .entry))) (now (points .entry)) ⌝ }
-    ensures { λ _. ⌜ now (points .exit) ≡ outIf (Read (judgeOf (worldIn (floorOf slots (now (vertices .entry)) (now (polygons .entry))) (asked start goal) from to) (now (route .entry)))) (pointsOf (worldIn (floorOf slots (now (vertices .entry)) (now (polygons .entry))) (asked start goal) from to) goal (now (route .entry))) (now (points .entry)) ⌝ }
+    requires { ⌜ Ground (now plan) (now vertices) (now polygons) × (trip .from < polygonCountIn (now plan)) ⌝ }
+    ensures { λ r.
+        let w = worldIn (floorIn (now (plan .entry)) (now (vertices .entry)) (now (polygons .entry))) trip in
+        let file = now (route .entry) in
+        ⌜ r ≡ answerIf (Read (judgeOf w file)) (pointsOf w (trip .goal) file) (now (points .entry)) ⌝ }
+    ensures { λ _.
+        let w = worldIn (floorIn (now (plan .entry)) (now (vertices .entry)) (now (polygons .entry))) trip in
+        let file = now (route .entry) in
+        ⌜ now (points .exit) ≡ outIf (Read (judgeOf w file)) (pointsOf w (trip .goal) file) (now (points .entry)) ⌝ }
 {
-    let judged = judge_marked(vertices, polygons, slots, start, goal, from, to, route);
-    match judged {
-        Judged::Accepted => list_route(
-            vertices,
-            polygons,
-            slots,
-            start,
-            goal,
-            from,
-            to,
-            route,
-            points,
-        ),
+    match judge_route(vertices, polygons, plan, trip, route) {
+        Judged::Accepted => list_route(vertices, trip, route, points),
         Judged::Length => Readout::Refused(Verdict::Read(Judged::Length)),
         Judged::NotSeed => Readout::Refused(Verdict::Read(Judged::NotSeed)),
         Judged::NotStep(i) => Readout::Refused(Verdict::Read(Judged::NotStep(i))),
         Judged::NotEnd(i) => Readout::Refused(Verdict::Read(Judged::NotEnd(i))),
+    }
+}
+
+// One question and one route file of a floor that was accepted, by its plan.
+pub fn read_on(
+    vertices: &[u8],
+    polygons: &[u8],
+    plan: &[u32; PLAN],
+    question: &[u8],
+    route: &[u8],
+    points: &mut [f32],
+) -> Readout
+    requires { ⌜ Ground (now plan) (now vertices) (now polygons) ⌝ }
+    ensures { λ r.
+        let f = floorIn (now (plan .entry)) (now (vertices .entry)) (now (polygons .entry)) in
+        ⌜ r ≡ readoutOn f (now (question .entry)) (now (route .entry)) (now (points .entry)) ⌝ }
+    ensures { λ _.
+        let f = floorIn (now (plan .entry)) (now (vertices .entry)) (now (polygons .entry)) in
+        ⌜ now (points .exit) ≡ writtenOn f (now (question .entry)) (now (route .entry)) (now (points .entry)) ⌝ }
+{
+    match floor::ask(vertices, polygons, plan, question) {
+        Look::Inside(from, to) => {
+            let trip = Trip::of(question, from as u32, to as u32);
+            read_route(vertices, polygons, plan, trip, route, points)
+        }
+        Look::Refused(refusal) => Readout::Refused(Verdict::Refused(refusal)),
     }
 }
 
@@ -232,24 +189,10 @@ pub fn read_out(
     ensures { λ r. ⌜ r ≡ readoutOf 8 (now (vertices .entry)) (now (polygons .entry)) (now (question .entry)) (now (route .entry)) (now (points .entry)) ⌝ }
     ensures { λ _. ⌜ now (points .exit) ≡ writtenOf 8 (now (vertices .entry)) (now (polygons .entry)) (now (question .entry)) (now (route .entry)) (now (points .entry)) ⌝ }
 {
-    let look = floor::look_at(vertices, polygons, question);
-    match look {
-        Look::Inside(from, to) => {
-            let start = stored::question_start(question);
-            let goal = stored::question_goal(question);
-            read_route(
-                vertices,
-                polygons,
-                SLOTS,
-                start,
-                goal,
-                from as u32,
-                to as u32,
-                route,
-                points,
-            )
-        }
-        Look::Refused(refusal) => Readout::Refused(Verdict::Refused(refusal)),
+    let mut plan = [0u32; PLAN];
+    match floor::look_at_floor(vertices, polygons, &mut plan) {
+        FloorLook::Accepted => read_on(vertices, polygons, &plan, question, route, points),
+        FloorLook::Faulty(refusal) => Readout::Refused(Verdict::Refused(refusal)),
     }
 }
 

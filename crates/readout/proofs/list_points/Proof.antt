@@ -1,182 +1,95 @@
 -- `list_points` meets its contract. The loop's invariant: the points that are left, put behind those that stand, are all the points. Assumes nothing.
-use Prim.Native.Nat.{ℕ, _-_, _/_, _≤_, _<_}
+use Prim.Native.Nat.{_-_}
 use native.Mathlib.Omega.{arith}
-use mathlib.Core.Path.{_≡_, refl, ap, _∙_, subst}
-use mathlib.Core.Bool.{true}
-use lib.ListN.{length}
+use mathlib.Core.Path.{_≡_, refl, ap, _∙_}
 use denote.Ref.{now}
-use Rattle.stored.specs.Stored.{floorOf}
-use Rattle.route.specs.Judge.{lengthRight}
+use Rattle.stored.specs.Stored.{verticesOf}
+use Rattle.stored.proofs.Records.{vertex-count}
 use Rattle.route.proofs.Turns.{length-gives}
-use Rattle.edges.specs.Where.{marksOf}
+use Rattle.records.specs.Records.{stepIn}
 use Rattle.steps.specs.Steps.{enter}
-use Rattle.steps.specs.World.{worldIn}
-use Rattle.judge.specs.Verdict.{asked}
-use Rattle.seek.proofs.Reading.{is-read}
-use Rattle.judge.proofs.Following.{follows-begin, follows-stops}
-use Rattle.readout.proofs.Chained.{accepted-length, accepted-seed, accepted-stops-not, Places, places-begin, places-on, place-for-root, place-for-last, places-end, room-for-all, all-placed}
+use Rattle.readout.proofs.Listing.{Places, places-begin, first-listed, second-listed, places-on, place-for-root, place-for-last, places-end}
 use Rattle.readout.proofs.list_points.Statement.{statement}
 use Rattle.readout.proofs.list_points.Tie as tie
 
 abbrev Inv-loop : tie.InvT-loop
-Inv-loop vertices polygons slots goal from to route points₀ last node₀ i₀ points node i = Places slots vertices polygons goal from to route node₀ points₀ points node i × (last ≡ length route / 32 - 1)
+Inv-loop vertices trip route points₀ last node₀ i₀ points node i = Places (verticesOf vertices) trip route last points₀ points node i
 
 abbrev μ-loop : tie.MeasureT-loop
-μ-loop vertices polygons slots goal from to route points₀ last node₀ i₀ points node i = last - i
+μ-loop vertices trip route points₀ last node₀ i₀ points node i = last - i
 
-sub-last : tie.Need-sub-last Inv-loop μ-loop
-sub-last c =
-    let s = c .before .before .before .before in
-    let right : lengthRight (now (s .args .route)) ≡ true = accepted-length
-    (worldIn (floorOf (s .args .slots) (now (s .args .vertices)) (now (s .args .polygons))) (asked (s .args .start) (s .args .goal)) (s .args .from)
-    (s .args .to)) (now (s .args .route)) (s .pre .1 .0) in
-    omega (arith, length-gives (now (s .args .route)) right)
+-- ---- places
 
-seed-requires : tie.Need-seed-requires Inv-loop μ-loop
-seed-requires c κs = tt
+abbrev begun : tie.After-seed Inv-loop μ-loop → tie.Start Inv-loop μ-loop
+begun c = c .before .before .before .before
+
+abbrev start : tie.At-loop Inv-loop μ-loop → tie.Start Inv-loop μ-loop
+start l = begun (l .before)
+
+-- the turn in which a step was entered, and a root put
+abbrev turning : tie.After-enter Inv-loop μ-loop → tie.In-loop Inv-loop μ-loop
+turning c = c .before .before
+
+abbrev entered : tie.After-slice-known2 Inv-loop μ-loop → tie.After-enter Inv-loop μ-loop
+entered c = c .before .before .before .before
+
+-- the node that was entered
+next-is : (c : tie.After-enter Inv-loop μ-loop) → let l = turning c .before in
+    c .enter .result ≡ enter (verticesOf (now (start l .args .vertices))) (l .loop .node) (stepIn (now (start l .args .route)) (l .loop .i))
+next-is c = let l = turning c .before in c .enter .ensures ∙ ap (enter (verticesOf (now (start l .args .vertices))) (l .loop .node)) (c .before .step-in .ensures)
+
+-- ---- before the loop
 
 loop-holds : tie.Need-loop-holds Inv-loop μ-loop
-loop-holds c =
-    let s = c .before .before .before .before .before in
-    let right : lengthRight (now (s .args .route)) ≡ true = accepted-length
-    (worldIn (floorOf (s .args .slots) (now (s .args .vertices)) (now (s .args .polygons))) (asked (s .args .start) (s .args .goal)) (s .args .from)
-    (s .args .to)) (now (s .args .route)) (s .pre .1 .0) in (
-      places-begin (s .args .slots) (now (s .args .vertices)) (now (s .args .polygons)) (s .args .goal) (s .args .from) (s .args .to) (now (s .args .route)) _ _
-          (follows-begin (s .args .slots) (now (s .args .vertices)) (now (s .args .polygons))
-          (marksOf (floorOf (s .args .slots) (now (s .args .vertices)) (now (s .args .polygons)))) (s .pre .0 .0) (s .args .goal) (s .args .from) (s .args .to)
-          (now (s .args .route)) (s .args .start) _ (s .pre .0 .1) right (c .seed .ensures)),
-      refl,
-    )
+loop-holds c = let s = begun c in places-begin _ (s .args .trip) _ (s .pre .0) _ refl _ (c .seed .ensures)
 
-step-in-requires : tie.Need-step-in-requires Inv-loop μ-loop
-step-in-requires c κs = omega (arith, c .before .loop .inv .0 .follows .inside, c .before .loop .inv .1, c .loop-test .taken)
+-- ---- a record
 
 enter-requires : tie.Need-enter-requires Inv-loop μ-loop
 enter-requires c κs =
-    let h = c .before .before .loop .inv .0 .follows in
-    (h .stands .first-listed, h .stands .second-listed, omega (arith, h .points, h .upto, h .few))
+    let turn = c .before in
+    let l = turn .before in
+    let s = start l in
+    let h = l .loop .inv in
+    let under = turn .loop-test .taken in
+    let count = vertex-count (now (s .args .vertices)) in (
+      omega (arith, count, first-listed _ _ _ _ _ _ (l .loop .node) (l .loop .i) h under),
+      omega (arith, count, second-listed _ _ _ _ _ _ (l .loop .node) (l .loop .i) h under),
+      omega (arith, h .points, h .upto, h .few),
+    )
 
 put-root-requires : tie.Need-put-root-requires Inv-loop μ-loop
-unfolding worldIn
 put-root-requires c κs =
-    let at-step-in = c .before .before in
-    let at-loop-test = at-step-in .before in
-    let l = at-loop-test .before in
-    let s = l .before .before .before .before .before .before in
-    let right : lengthRight (now (s .args .route)) ≡ true = accepted-length
-    (worldIn (floorOf (s .args .slots) (now (s .args .vertices)) (now (s .args .polygons))) (asked (s .args .start) (s .args .goal)) (s .args .from)
-    (s .args .to)) (now (s .args .route)) (s .pre .1 .0) in
-    let under : l .loop .i < length (now (s .args .route)) / 32 - 1 = subst (λ (n : ℕ). l .loop .i < n) (l .loop .inv .1) (at-loop-test .loop-test .taken) in
-    let room = room-for-all (s .args .slots) (now (s .args .vertices)) (now (s .args .polygons)) (s .args .goal) (s .args .from) (s .args .to)
-    (now (s .args .route)) (s .args .start) _ right (l .before .seed .ensures) (length (now (s .args .points))) (s .pre .1 .1) in
-    place-for-root (s .args .slots) (now (s .args .vertices)) (now (s .args .polygons)) (s .args .goal) (s .args .from) (s .args .to) (now (s .args .route))
-    (marksOf (floorOf (s .args .slots) (now (s .args .vertices)) (now (s .args .polygons)))) (s .pre .0 .0) _ (now (s .args .points)) _ (l .loop .node)
-    (l .loop .i) (l .loop .inv .0) _ under
-    (is-read (now (s .args .route)) (λ n. l .before .before .before .shared-slice-known3 .given n .fits) (l .loop .i)
-    (omega (arith, l .loop .inv .0 .follows .inside, l .loop .inv .1, at-loop-test .loop-test .taken)) (s .args .slots) (now (s .args .vertices))
-    (now (s .args .polygons)) (λ n. l .before .before .before .before .shared-slice-known2 .given n .fits) (s .args .to) (l .loop .node)
-    (λ missing. accepted-stops-not
-    (worldIn (floorOf (s .args .slots) (now (s .args .vertices)) (now (s .args .polygons))) (asked (s .args .start) (s .args .goal)) (s .args .from)
-    (s .args .to)) (now (s .args .route)) (l .loop .i) (s .pre .1 .0)
-    (follows-stops (s .args .slots) (now (s .args .vertices)) (now (s .args .polygons))
-    (marksOf (floorOf (s .args .slots) (now (s .args .vertices)) (now (s .args .polygons)))) (s .pre .0 .0) (s .args .goal) (s .args .from) (s .args .to)
-    (now (s .args .route)) _ (l .loop .node) (l .loop .i) (l .loop .inv .0 .follows) (s .args .start) right
-    (accepted-seed (worldIn (floorOf (s .args .slots) (now (s .args .vertices)) (now (s .args .polygons))) (asked (s .args .start) (s .args .goal))
-    (s .args .from) (s .args .to)) (now (s .args .route)) (s .pre .1 .0)) (l .before .seed .ensures) under missing))) (s .args .start) _
-    (c .before .enter .ensures ∙ ap (enter (floorOf (s .args .slots) (now (s .args .vertices)) (now (s .args .polygons))) (l .loop .node))
-    (at-step-in .step-in .ensures)) room
-
-add-i : tie.Need-add-i Inv-loop μ-loop
-add-i c =
-    let h = c .before .before .before .before .before .before .before .loop .inv .0 .follows in
-    omega (arith, h .upto, h .few)
-
-loop-less : tie.Need-loop-less Inv-loop μ-loop
-loop-less c = omega (arith, c .before .before .before .before .before .before .loop-test .taken)
+    let turn = turning (c .before) in
+    let l = turn .before in
+    place-for-root _ _ _ _ _ _ (l .loop .node) (l .loop .i) (l .loop .inv) (turn .loop-test .taken) (start l .pre .1) (next-is (c .before))
 
 loop-again : tie.Need-loop-again Inv-loop μ-loop
-unfolding worldIn
 loop-again c =
-    let at-put-root = c .before .before in
-    let at-enter = at-put-root .before .before in
-    let at-step-in = at-enter .before in
-    let at-loop-test = at-step-in .before in
-    let l = at-loop-test .before in
-    let s = l .before .before .before .before .before .before in
-    let right : lengthRight (now (s .args .route)) ≡ true = accepted-length
-    (worldIn (floorOf (s .args .slots) (now (s .args .vertices)) (now (s .args .polygons))) (asked (s .args .start) (s .args .goal)) (s .args .from)
-    (s .args .to)) (now (s .args .route)) (s .pre .1 .0) in
-    let under : l .loop .i < length (now (s .args .route)) / 32 - 1 = subst (λ (n : ℕ). l .loop .i < n) (l .loop .inv .1) (at-loop-test .loop-test .taken) in (
-      places-on (s .args .slots) (now (s .args .vertices)) (now (s .args .polygons)) (s .args .goal) (s .args .from) (s .args .to) (now (s .args .route))
-          (marksOf (floorOf (s .args .slots) (now (s .args .vertices)) (now (s .args .polygons)))) (s .pre .0 .0) _ (now (s .args .points)) _ (l .loop .node)
-          (l .loop .i) (l .loop .inv .0) _ under
-          (is-read (now (s .args .route)) (λ n. l .before .before .before .shared-slice-known3 .given n .fits) (l .loop .i)
-          (omega (arith, l .loop .inv .0 .follows .inside, l .loop .inv .1, at-loop-test .loop-test .taken)) (s .args .slots) (now (s .args .vertices))
-          (now (s .args .polygons)) (λ n. l .before .before .before .before .shared-slice-known2 .given n .fits) (s .args .to) (l .loop .node)
-          (λ missing. accepted-stops-not
-          (worldIn (floorOf (s .args .slots) (now (s .args .vertices)) (now (s .args .polygons))) (asked (s .args .start) (s .args .goal)) (s .args .from)
-          (s .args .to)) (now (s .args .route)) (l .loop .i) (s .pre .1 .0)
-          (follows-stops (s .args .slots) (now (s .args .vertices)) (now (s .args .polygons))
-          (marksOf (floorOf (s .args .slots) (now (s .args .vertices)) (now (s .args .polygons)))) (s .pre .0 .0) (s .args .goal) (s .args .from) (s .args .to)
-          (now (s .args .route)) _ (l .loop .node) (l .loop .i) (l .loop .inv .0 .follows) (s .args .start) right
-          (accepted-seed (worldIn (floorOf (s .args .slots) (now (s .args .vertices)) (now (s .args .polygons))) (asked (s .args .start) (s .args .goal))
-          (s .args .from) (s .args .to)) (now (s .args .route)) (s .pre .1 .0)) (l .before .seed .ensures) under missing))) _ _
-          (at-enter .enter .ensures ∙ ap (enter (floorOf (s .args .slots) (now (s .args .vertices)) (now (s .args .polygons))) (l .loop .node))
-          (at-step-in .step-in .ensures)) (at-put-root .put-root .ensures),
-      l .loop .inv .1,
-    )
+    let turn = turning (entered c) in
+    let l = turn .before in
+    places-on _ _ _ _ _ _ (l .loop .node) (l .loop .i) (l .loop .inv) (turn .loop-test .taken) (next-is (entered c)) (c .before .before .put-root .ensures)
+
+-- ---- behind the last step
 
 put-last-requires : tie.Need-put-last-requires Inv-loop μ-loop
 put-last-requires c κs =
     let l = c .before .before in
-    let s = l .before .before .before .before .before .before in
-    let right : lengthRight (now (s .args .route)) ≡ true = accepted-length
-    (worldIn (floorOf (s .args .slots) (now (s .args .vertices)) (now (s .args .polygons))) (asked (s .args .start) (s .args .goal)) (s .args .from)
-    (s .args .to)) (now (s .args .route)) (s .pre .1 .0) in
-    let over : length (now (s .args .route)) / 32 - 1 ≤ l .loop .i = subst (λ (n : ℕ). n ≤ l .loop .i) (l .loop .inv .1) (c .before .loop-test .left) in
-    let room = room-for-all (s .args .slots) (now (s .args .vertices)) (now (s .args .polygons)) (s .args .goal) (s .args .from) (s .args .to)
-    (now (s .args .route)) (s .args .start) _ right (l .before .seed .ensures) (length (now (s .args .points))) (s .pre .1 .1) in
-    place-for-last (s .args .slots) (now (s .args .vertices)) (now (s .args .polygons)) (s .args .goal) (s .args .from) (s .args .to) (now (s .args .route))
-    (marksOf (floorOf (s .args .slots) (now (s .args .vertices)) (now (s .args .polygons)))) (s .pre .0 .0) _ (now (s .args .points)) _ (l .loop .node)
-    (l .loop .i) (l .loop .inv .0) over (s .args .start) room
+    place-for-last _ _ _ _ _ _ (l .loop .node) (l .loop .i) (l .loop .inv) (c .before .loop-test .left) (start l .pre .1)
 
-same-length : tie.Need-same-length Inv-loop μ-loop
-same-length c =
-    let at-put-last = c .before .before in
-    let at-loop = at-put-last .before .before .before in
-    at-put-last .put-last .kept .0 ∙ at-loop .loop .inv .0 .long
+abbrev ended : tie.After-put-last Inv-loop μ-loop → tie.After-loop Inv-loop μ-loop
+ended c = c .before .before
 
 returns : tie.Need-returns Inv-loop μ-loop
 returns c =
-    let at-put-last = c .before .before in
-    let at-loop-test = at-put-last .before .before in
-    let l = at-loop-test .before in
-    let s = l .before .before .before .before .before .before in
-    let right : lengthRight (now (s .args .route)) ≡ true = accepted-length
-    (worldIn (floorOf (s .args .slots) (now (s .args .vertices)) (now (s .args .polygons))) (asked (s .args .start) (s .args .goal)) (s .args .from)
-    (s .args .to)) (now (s .args .route)) (s .pre .1 .0) in
-    let over : length (now (s .args .route)) / 32 - 1 ≤ l .loop .i = subst (λ (n : ℕ). n ≤ l .loop .i) (l .loop .inv .1) (at-loop-test .loop-test .left) in
-    places-end (s .args .slots) (now (s .args .vertices)) (now (s .args .polygons)) (s .args .goal) (s .args .from) (s .args .to) (now (s .args .route))
-    (marksOf (floorOf (s .args .slots) (now (s .args .vertices)) (now (s .args .polygons)))) (s .pre .0 .0) _ (now (s .args .points)) _ (l .loop .node)
-    (l .loop .i) (l .loop .inv .0) over (s .args .start) _ (at-put-last .put-last .ensures) ∙ all-placed (s .args .slots) (now (s .args .vertices))
-    (now (s .args .polygons)) (s .args .goal) (s .args .from) (s .args .to) (now (s .args .route)) (s .args .start) _ right (l .before .seed .ensures)
-    (now (s .args .points))
+    let put = c .before .before in
+    let l = ended put .before in
+    places-end _ _ _ _ _ _ (l .loop .node) (l .loop .i) (l .loop .inv) (ended put .loop-test .left) (put .put-last .ensures)
 
 pub list-points-spec : {M : Type 1} → statement M
 list-points-spec =
     tie.close
-    (tie.spec
-    Inv-loop
-    μ-loop
-    sub-last
-    seed-requires
-    loop-holds
-    step-in-requires
-    enter-requires
-    put-root-requires
-    add-i
-    loop-less
-    loop-again
-    put-last-requires
-    same-length
-    returns)
+    (tie.spec Inv-loop μ-loop (λ c. omega (arith, length-gives _ (c .before .before .before .pre .0 .whole))) (λ c κs. tt) loop-holds
+    (λ c κs. omega (arith, c .before .loop .inv .inside, c .loop-test .taken)) enter-requires put-root-requires
+    (λ c. let h = turning (entered c) .before .loop .inv in omega (arith, h .upto, h .few)) (λ c. omega (arith, turning (entered c) .loop-test .taken)) loop-again
+    put-last-requires (λ c. c .before .before .put-last .kept .0 ∙ ended (c .before .before) .before .loop .inv .long) returns)

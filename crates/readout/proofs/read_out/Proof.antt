@@ -1,89 +1,51 @@
 -- `read_out` meets its contract. Assumes nothing.
-use native.Mathlib.Omega.{arith}
-use mathlib.Core.Path.{refl, sym, _∙_}
-use denote.Ref.{now}
-use Rattle.judge.proofs.Looking.{inside-tells, ready}
-use Rattle.readout.proofs.Answered.{read-refused, read-inside}
 use borrow.Author.Needs.{needs}
+use denote.Ref.{now}
+use mathlib.Core.Path.{_≡_, sym, _∙_}
+use lib.Dec.{lit<, lit≤}
+use Rattle.floor.specs.declared.FloorLook.the-variants.{Accepted as Sound}
+use Rattle.floor.specs.Look.{floorLookOf}
+use Rattle.floor.proofs.Planned.{slots-are, grounded}
+use Rattle.readout.proofs.Answered.{reads-floor, reads-faulty}
 use Rattle.readout.proofs.read_out.Statement.{statement}
 use Rattle.readout.proofs.read_out.Tie as tie
 
-question-start-requires : tie.Need-question-start-requires
-question-start-requires c κs =
-    let at-look-at = c .before .before .before in
-    let s = at-look-at .before .before .before .before .before .before in
-    inside-tells 8 (now (s .args .vertices)) (now (s .args .polygons)) (now (s .args .question)) _ _
-    (sym (at-look-at .look-at .ensures) ∙ c .before .look .given .1) .long
+-- ---- places
 
-question-goal-requires : tie.Need-question-goal-requires
-question-goal-requires c κs =
-    let at-look = c .before .before in
-    let at-look-at = at-look .before .before in
-    let s = at-look-at .before .before .before .before .before .before in
-    inside-tells 8 (now (s .args .vertices)) (now (s .args .polygons)) (now (s .args .question)) _ _
-    (sym (at-look-at .look-at .ensures) ∙ at-look .look .given .1) .long
+abbrev start : tie.After-look-at-floor → tie.Start
+start c = c .before .before .before .before .before .before .before
 
-cast-read-route : tie.Need-cast-read-route
-cast-read-route c =
-    let at-look = c .before .before .before in
-    let at-look-at = at-look .before .before in
-    let s = at-look-at .before .before .before .before .before .before in
-    let h = inside-tells 8 (now (s .args .vertices)) (now (s .args .polygons)) (now (s .args .question)) _ _
-    (sym (at-look-at .look-at .ensures) ∙ at-look .look .given .1) in
-    omega (arith, h .from-listed, h .few)
+-- behind the look at a floor that is accepted
+abbrev looked : tie.After-enum-told → tie.After-look-at-floor
+looked c = c .before .before
 
-cast-read-route-2 : tie.Need-cast-read-route-2
-cast-read-route-2 c =
-    let at-look = c .before .before .before in
-    let at-look-at = at-look .before .before in
-    let s = at-look-at .before .before .before .before .before .before in
-    let h = inside-tells 8 (now (s .args .vertices)) (now (s .args .polygons)) (now (s .args .question)) _ _
-    (sym (at-look-at .look-at .ensures) ∙ at-look .look .given .1) in
-    omega (arith, h .to-listed, h .few)
+-- behind the read-out, and before it
+abbrev planned : tie.After-read-on-arg → tie.After-enum-told
+planned c = c .before .before
 
-read-route-requires : tie.Need-read-route-requires
-read-route-requires c κs =
-    let at-look = c .before .before .before .before in
-    let at-look-at = at-look .before .before in
-    let s = at-look-at .before .before .before .before .before .before in
-    let e = sym (at-look-at .look-at .ensures) ∙ at-look .look .given .1 in (
-      ready (now (s .args .vertices)) (now (s .args .polygons)) _ (now (s .args .question)) _ _ e refl,
-      inside-tells 8 (now (s .args .vertices))
-          (now (s .args .polygons)) (now (s .args .question)) _ _ e .from-listed,
-    )
+sound : (c : tie.After-enum-told) → let s = start (looked c) in floorLookOf 8 (now (s .args .vertices)) (now (s .args .polygons)) ≡ Sound
+sound c = sym (looked c .look-at-floor .ensures .0) ∙ c .enum-told .given .1
+
+-- ---- accepted
+
+read-on-requires : tie.Need-read-on-requires
+read-on-requires c κs =
+    let told = planned c in
+    grounded 8 _ _ (lit< tt) (lit≤ tt) (sound told) _ (looked told .look-at-floor .ensures .1)
 
 returns : tie.Need-returns
 returns c =
-    let at-read-route = c .before .before in
-    let at-question-goal = at-read-route .before .before in
-    let at-question-start = at-question-goal .before in
-    let at-look = at-question-start .before .before in
-    let at-look-at = at-look .before .before in
-    let s = at-look-at .before .before .before .before .before .before in
-    let e = sym (at-look-at .look-at .ensures) ∙ at-look .look .given .1 in
-    read-inside 8 (now (s .args .vertices)) (now (s .args .polygons)) (now (s .args .question)) (now (s .args .route)) (now (s .args .points)) _ _ e _ _
-    (at-question-start .question-start .ensures) (at-question-goal .question-goal .ensures) _ _ (at-read-route .read-route .ensures .0)
-    (at-read-route .read-route .ensures .1)
+    let read = c .before .before in
+    let told = planned (read .before) in
+    let look = looked told .look-at-floor in
+    reads-floor 8 _ _ _ _ _ (look .ensures .0) (told .enum-told .given .1) (slots-are 8 _ _ (lit< tt) (lit≤ tt) (sound told) _ (look .ensures .1))
+    (read .read-on .ensures)
+
+-- ---- at fault
 
 returns-2 : tie.Need-returns-2
-returns-2 c =
-    let at-look-at = c .before .before .before in
-    let s = at-look-at .before .before .before .before .before .before in
-    read-refused 8 (now (s .args .vertices)) (now (s .args .polygons)) (now (s .args .question)) (now (s .args .route)) (now (s .args .points)) _
-    (sym (at-look-at .look-at .ensures) ∙ c .before .look2 .given .1)
+returns-2 c = reads-faulty 8 _ _ _ _ _ (c .before .before .before .look-at-floor .ensures .0) (c .before .refusal .given .1)
 
 pub read-out-spec : {M : Type 1} → statement M
 read-out-spec =
-    tie.close
-    (tie.spec
-    (λ c κs. search needs)
-    (λ c. search needs)
-    question-start-requires
-    question-goal-requires
-    cast-read-route
-    cast-read-route-2
-    read-route-requires
-    (λ c. search needs)
-    (λ c. search needs)
-    returns
-    returns-2)
+    tie.close (tie.spec (λ c κs. search needs) (λ c. search needs) read-on-requires (λ c. search needs) (λ c. search needs) returns returns-2)
