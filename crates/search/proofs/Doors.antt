@@ -1,7 +1,7 @@
 -- From a floor and a question to the search: each way through the code is the definition's, and what the search asks for is there. Assumes nothing.
 use Prim.Native.Nat.{ℕ, _≤_, _<_}
 use native.Mathlib.Omega.{arith}
-use mathlib.Core.Path.{_≡_, refl, sym, ap, _∙_, subst}
+use mathlib.Core.Path.{_≡_, refl, sym, _∙_, subst}
 use mathlib.Core.Bool.{Bool, true, false, not, cond, _&&_}
 use mathlib.Core.List.{List}
 use borrow.Author.Tests.{eq-eqb, ne-eqb, leb-false}
@@ -100,38 +100,48 @@ inside-first a b p q e = cc
 inside-second : (a b p q : ℕ) → Inside a b ≡ Inside p q → b ≡ q
 inside-second a b p q e = cc
 
--- where start and goal are inside, the question is long enough and both polygons are listed
-pub record Asking (f : Floor) (question : List ℕ) (p q : ℕ) : Type 0 where
+-- where start and goal are inside, the question is long enough and the plan lists both polygons
+pub record Asking (plan question : List ℕ) (p q : ℕ) : Type 0 where
   pub long : length question ≡ 16
-  pub start-in : p < length (f .polygons)
-  pub goal-in : q < length (f .polygons)
   pub right : questionRight question ≡ true
+  pub start-listed : p < polygonCountIn plan
+  pub goal-listed : q < polygonCountIn plan
+  pub few-listed : polygonCountIn plan ≤ 512
 
-pub asked-inside : (f : Floor) (question : List ℕ) (p q : ℕ) → askOf f question ≡ Inside p q → Asking f question p q
-unfolding askOf
-asked-inside f question p q e = go (questionRight question) refl (leb n a) refl (leb n b) refl e
-  where
-    n : ℕ
-    n = length (f .polygons)
+module _ {plan vs ps : List ℕ} (g : Ground plan vs ps) (question : List ℕ) {look : Look} (asked : look ≡ askOf (floorIn plan vs ps) question) {p q : ℕ}
+    (inside : look ≡ Inside p q) where
+  abbrev f : Floor
+  f = floorIn plan vs ps
 
-    a : ℕ
-    a = polygonOf f (questionOf question .start)
+  abbrev a : ℕ
+  a = polygonOf f (questionOf question .start)
 
-    b : ℕ
-    b = polygonOf f (questionOf question .goal)
+  abbrev b : ℕ
+  b = polygonOf f (questionOf question .goal)
 
-    go : (x : Bool) → questionRight question ≡ x → (y : Bool) → leb n a ≡ y → (z : Bool) → leb n b ≡ z
-        → cond (not x) (Refused refusal.Question) (cond y (Refused refusal.StartOutside) (cond z (Refused refusal.GoalOutside) (Inside a b))) ≡ Inside p q
-        → Asking f question p q
-    go false r y m z l e = inside-not refusal.Question p q e
-    go true r true m z l e = inside-not refusal.StartOutside p q e
-    go true r false m true l e = inside-not refusal.GoalOutside p q e
-    go true r false m false l e = record {
-      long = question-length question r;
-      start-in = rw (← inside-first a b p q e) (leb-false n a m);
-      goal-in = rw (← inside-second a b p q e) (leb-false n b l);
-      right = r;
-    }
+  listed : (i j : ℕ) → i ≡ j → leb (length (f .polygons)) i ≡ false → j < polygonCountIn plan
+  listed i j e l = rw (← polygons-counted (g .polygons-planned), ← e) (leb-false (length (f .polygons)) i l)
+
+  pub asked-inside : Asking plan question p q
+  unfolding askOf
+  asked-inside = go (questionRight question) refl (leb n a) refl (leb n b) refl (sym asked ∙ inside)
+    where
+      n : ℕ
+      n = length (f .polygons)
+
+      go : (x : Bool) → questionRight question ≡ x → (y : Bool) → leb n a ≡ y → (z : Bool) → leb n b ≡ z
+          → cond (not x) (Refused refusal.Question) (cond y (Refused refusal.StartOutside) (cond z (Refused refusal.GoalOutside) (Inside a b))) ≡ Inside p q
+          → Asking plan question p q
+      go false r y m z l e = inside-not refusal.Question p q e
+      go true r true m z l e = inside-not refusal.StartOutside p q e
+      go true r false m true l e = inside-not refusal.GoalOutside p q e
+      go true r false m false l e = record {
+        long = question-length question r;
+        right = r;
+        start-listed = listed a p (inside-first a b p q e) m;
+        goal-listed = listed b q (inside-second a b p q e) l;
+        few-listed = rw (g .polygons-planned .counted) (g .polygons-planned .few);
+      }
 
 module _ (f : Floor) (question : List ℕ) (budget : ℕ) (w : Work) (out : List ℕ) {look : Look} (asked : look ≡ askOf f question) where
   pub asks-inside : {p goal : ℕ} → look ≡ Inside p goal → {trip : Trip} → trip ≡ tripOf (questionOf question) p goal
@@ -142,27 +152,6 @@ module _ (f : Floor) (question : List ℕ) (budget : ℕ) (w : Work) (out : List
   pub asks-refused : {r : Refusal} → look ≡ Refused r → searchedOf (refused r) w out ≡ askedOf f question budget w out
   unfolding askedOf
   asks-refused e = rw (← asked, e)
-
--- both polygons by the plan, and a start without a NaN
-module _ {plan vs ps : List ℕ} (g : Ground plan vs ps) (question : List ℕ) {look : Look} (asked : look ≡ askOf (floorIn plan vs ps) question) {p q : ℕ}
-    (inside : look ≡ Inside p q) where
-  its : Asking (floorIn plan vs ps) question p q
-  its = asked-inside (floorIn plan vs ps) question p q (sym asked ∙ inside)
-
-  pub question-long : length question ≡ 16
-  question-long = its .long
-
-  pub start-listed : p < polygonCountIn plan
-  start-listed = subst (λ (n : ℕ). p < n) (polygons-counted (g .polygons-planned)) (its .start-in)
-
-  pub goal-listed : q < polygonCountIn plan
-  goal-listed = subst (λ (n : ℕ). q < n) (polygons-counted (g .polygons-planned)) (its .goal-in)
-
-  pub few-listed : polygonCountIn plan ≤ 512
-  few-listed = rw (g .polygons-planned .counted) (g .polygons-planned .few)
-
-  pub trip-self : {trip : Trip} → trip ≡ tripOf (questionOf question) p q → sameOf (trip .start) (trip .start) ≡ true
-  trip-self t = start-self question (its .right) (ap (λ (x : Trip). x .start) t)
 
 -- ---- the floor
 

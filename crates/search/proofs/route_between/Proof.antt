@@ -1,67 +1,44 @@
+-- `search::route_between` meets its contract. Assumes nothing.
 use borrow.Author.Needs.{needs}
+use native.Mathlib.Omega.{arith}
+use Rattle.places.proofs.Rows.{places-room}
+use Rattle.search.proofs.Doors.{between-none, between-on}
 use Rattle.search.proofs.route_between.Statement.{statement}
 use Rattle.search.proofs.route_between.Tie as tie
-use Rattle.search.proofs.route_between.Reads as reads
-use Rattle.search.proofs.route_between.Lts as lts
-use Rattle.places.proofs.places_in.Reads as places-in-reads
-use Rattle.search.proofs.route_from.Reads as route-from-reads
 
--- src/lib.rt:64:9
-places-in-requires : tie.Need-places-in-requires
-places-in-requires c κs = search needs
+-- ---- places
 
--- src/lib.rt:66:9
-same-length : tie.Need-same-length
-same-length c = search needs
+abbrev start : tie.After-places-in → tie.Start
+start c = c .before .before .before .before .before .before .before .before .before .before
 
--- src/lib.rt:66:9
-same-length-2 : tie.Need-same-length-2
-same-length-2 c = search needs
+-- behind the route, and before it
+abbrev routed : tie.After-slice-known8 → tie.After-route-from
+routed c = c .before .before .before .before .before .before .before .before
 
--- src/lib.rt:66:9
-same-length-3 : tie.Need-same-length-3
-same-length-3 c = search needs
+abbrev counted : tie.After-route-from → tie.Else1
+counted c = c .before .before .before .before .before
 
--- src/lib.rt:66:9
+-- ---- no place
+
 returns : tie.Need-returns
-returns c = ?
+returns c = between-none _ _ _ _ _ (c .before .places-in .ensures) (c .if1 .taken)
 
--- src/lib.rt:69:5
+-- ---- a route
+
 route-from-requires : tie.Need-route-from-requires
-route-from-requires c κs = ?
+route-from-requires c κs =
+    let at-if1 = c .before .before .before .before in
+    let s = start (at-if1 .before) in
+    ((s .pre .0, s .pre .1), (places-room _ (at-if1 .before .places-in .ensures), omega (arith, at-if1 .if1 .left), s .pre .2))
 
--- src/lib.rt:50:1
-same-length-4 : tie.Need-same-length-4
-same-length-4 c = search needs
-
--- src/lib.rt:50:1
-same-length-5 : tie.Need-same-length-5
-same-length-5 c = search needs
-
--- src/lib.rt:50:1
-same-length-6 : tie.Need-same-length-6
-same-length-6 c = search needs
-
--- src/lib.rt:50:1
-same-length-7 : tie.Need-same-length-7
-same-length-7 c = search needs
-
--- src/lib.rt:50:1
 returns-2 : tie.Need-returns-2
-returns-2 c = ?
+returns-2 c =
+    let at-route = routed c in
+    let at-if1 = counted at-route in
+    between-on _ _ _ _ _ (at-if1 .before .places-in .ensures) (at-if1 .if1 .left) (at-route .route-from .ensures)
 
 pub route-between-spec : {M : Type 1} → statement M
 route-between-spec =
     tie.close
-    (tie.spec
-    places-in-requires
-    same-length
-    same-length-2
-    same-length-3
-    returns
-    route-from-requires
-    same-length-4
-    same-length-5
-    same-length-6
-    same-length-7
-    returns-2)
+    (tie.spec (λ c κs. search needs) (λ c. search needs) (λ c. search needs) (λ c. search needs) returns route-from-requires (λ c. search needs)
+    (λ c. search needs) (λ c. search needs) (λ c. search needs) returns-2)
