@@ -155,7 +155,8 @@ module _ (f : Floor) (question : List ℕ) (budget : ℕ) (w : Work) (out : List
 
 -- ---- the floor
 
-module _ (slots : ℕ) (vs ps : List ℕ) {look : FloorLook} (looked : look ≡ floorLookOf slots vs ps) (question : List ℕ) (budget : ℕ) (w : Work) (out : List ℕ) where
+module _ (slots : ℕ) (vs ps : List ℕ) {look : FloorLook} (looked : look ≡ floorLookOf slots vs ps) (question : List ℕ) (budget : ℕ) (w : Work)
+    (out : List ℕ) where
   pub searches-floor : look ≡ Sound → {x : Searched} {s : ℕ} → s ≡ slots → x ≡ askedOf (floorOf s vs ps) question budget w out
       → x ≡ searchOf slots vs ps question budget w out
   unfolding searchOf askedOf lookOf

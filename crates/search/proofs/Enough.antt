@@ -26,7 +26,11 @@ written-fits : (bytes : List ℕ) (counted : ℕ) (out : List ℕ) (steps n : �
 unfolding written
 written-fits bytes counted out steps n = go (ltb (length out) (length bytes)) refl
   where
-    go : (b : Bool) → ltb (length out) (length bytes) ≡ b → cond {A = Delivered} b (deliveredOf (Short counted) out) (deliveredOf (Found counted (length bytes)) (bytes ++ drop (length bytes) out)) .answer ≡ Found steps n → n ≤ length out
+    found : Delivered
+    found = deliveredOf (Found counted (length bytes)) (bytes ++ drop (length bytes) out)
+
+    go : (b : Bool) → ltb (length out) (length bytes) ≡ b → cond {A = Delivered} b (deliveredOf (Short counted) out) found .answer ≡ Found steps n
+        → n ≤ length out
     go true l e = let z : _≡_ {A = ℕ} 0 1 = cc in absurd (omega arith)
     go false l e = let k : length bytes ≡ n = cc in omega (arith, ltb-false (length out) (length bytes) l)
 
@@ -53,15 +57,20 @@ module _ (f : Floor) (trip : Trip) (budget : ℕ) (w : Work) (out : List ℕ) (s
       around : Delivered
       around = finished (end .state .work) trip (end .finish) (end .state .counts .pops) out
 
-      go : (a b : Bool) → cond {A = Searched} a (searchedOf NoPlaces w out) (cond {A = Searched} b (withWork w straight) (withWork (end .state .work) around)) .answer ≡ Found steps n → n ≤ length out
+      go : (a b : Bool)
+          → cond {A = Searched} a (searchedOf NoPlaces w out) (cond {A = Searched} b (withWork w straight) (withWork (end .state .work) around)) .answer
+          ≡ Found steps n → n ≤ length out
       go true b e = let z : _≡_ {A = ℕ} 0 1 = cc in absurd (omega arith)
       go false true e = written-fits (straightBytes trip) 0 out steps n e
       go false false e = finished-fits (end .finish) e
 
-pub found-fits : (s : ℕ) (vs ps question : List ℕ) (budget : ℕ) (w : Work) (out : List ℕ) (steps n : ℕ) → searchOf s vs ps question budget w out .answer ≡ Found steps n → n ≤ length out
+pub found-fits : (s : ℕ) (vs ps question : List ℕ) (budget : ℕ) (w : Work) (out : List ℕ) (steps n : ℕ)
+    → searchOf s vs ps question budget w out .answer ≡ Found steps n → n ≤ length out
 unfolding searchOf
 found-fits s vs ps question budget w out steps n = go (lookOf s vs ps question)
   where
-    go : (look : Look) → ifInside look w out (λ p goal. betweenOf (floorOf s vs ps) (tripOf (questionOf question) p goal) budget w out) .answer ≡ Found steps n → n ≤ length out
+    go : (look : Look)
+        → ifInside look w out (λ p goal. betweenOf (floorOf s vs ps) (tripOf (questionOf question) p goal) budget w out) .answer ≡ Found steps n
+        → n ≤ length out
     go (Inside from to) e = between-fits (floorOf s vs ps) (tripOf (questionOf question) from to) budget w out steps n e
     go (Refused r) e = let z : _≡_ {A = ℕ} 0 1 = cc in absurd (omega arith)

@@ -1,5 +1,5 @@
--- A route that a search finds is a true route: the chain of parents is a trail into the goal polygon, and its bytes are the trail's. Rests on specs/Sound and on
--- route/specs/World. Assumes nothing.
+-- A route that a search finds is a true route: the chain of parents is a trail into the goal polygon, and its bytes are the trail's. Rests on specs/Sound and
+-- on route/specs/World. Assumes nothing.
 use Prim.Native.Nat.{ℕ, zero, suc, _+_, _*_, _<_}
 use native.Mathlib.Decide.{decLt}
 use native.Mathlib.Numerals.{add-one}
@@ -39,32 +39,37 @@ module _ (plan vs ps : List ℕ) (t : Task) where
 
     -- ---- the chain of a place
 
-    chain-of-seed : Trail world (depthAt w 0) (nodeAt w 0) (chainBytes w first (depthAt w 0) 0)
+    abbrev chain : ℕ → List ℕ
+    chain i = chainBytes w first (depthAt w i) i
+
+    abbrev Trailed : ℕ → Type 0
+    Trailed i = Trail world (depthAt w i) (nodeAt w i) (chain i)
+
+    chain-of-seed : Trailed 0
     unfolding chainBytes worldIn
     chain-of-seed = rw (h .seed-node, h .seed-depth) seeded
 
-    chain-longer : (i : ℕ) → Entered f t w i → chainBytes w first (depthAt w i) i ≡ chainBytes w first (depthAt w (parentAt w i)) (parentAt w i) ++ stepBytes (stepAt w i)
+    chain-longer : (i : ℕ) → Entered f t w i → chain i ≡ chain (parentAt w i) ++ stepBytes (stepAt w i)
     unfolding chainBytes
     chain-longer i e = rw (e .deeper, add-one)
 
-    chain-of-step : (i : ℕ) → Entered f t w i → Trail world (depthAt w (parentAt w i)) (nodeAt w (parentAt w i)) (chainBytes w first (depthAt w (parentAt w i)) (parentAt w i))
-        → Trail world (depthAt w i) (nodeAt w i) (chainBytes w first (depthAt w i) i)
+    chain-of-step : (i : ℕ) → Entered f t w i → Trailed (parentAt w i) → Trailed i
     unfolding worldIn
     chain-of-step i e trail = rw (chain-longer i e, e .deeper, e .entered) (stepped trail (e .permitted))
 
-    chain-below : (m i : ℕ) → i < m → i < s .counts .taken → Trail world (depthAt w i) (nodeAt w i) (chainBytes w first (depthAt w i) i)
+    chain-below : (m i : ℕ) → i < m → i < s .counts .taken → Trailed i
     chain-below zero i b l = absurd (omega arith)
     chain-below (suc m) i b l = go (decLt 0 i) (chain-below m)
       where
-        go : Dec (0 < i) → ((j : ℕ) → j < m → j < s .counts .taken → Trail world (depthAt w j) (nodeAt w j) (chainBytes w first (depthAt w j) j)) → Trail world (depthAt w i) (nodeAt w i) (chainBytes w first (depthAt w i) i)
+        go : Dec (0 < i) → ((j : ℕ) → j < m → j < s .counts .taken → Trailed j) → Trailed i
         go (yes z) lower =
             let e = h .entered i z l in
             chain-of-step i e (lower (parentAt w i) (omega (arith, e .lower, b)) (omega (arith, e .lower, l)))
         go (no z) lower =
             let zero-is : 0 ≡ i = omega arith in
-            subst (λ (j : ℕ). Trail world (depthAt w j) (nodeAt w j) (chainBytes w first (depthAt w j) j)) zero-is chain-of-seed
+            subst Trailed zero-is chain-of-seed
 
-    pub chain-is-trail : (i : ℕ) → i < s .counts .taken → Trail world (depthAt w i) (nodeAt w i) (chainBytes w first (depthAt w i) i)
+    pub chain-is-trail : (i : ℕ) → i < s .counts .taken → Trailed i
     chain-is-trail i l = chain-below (i + 1) i (omega arith) l
 
     -- ---- a place in the goal polygon
@@ -75,7 +80,7 @@ module _ (plan vs ps : List ℕ) (t : Task) where
       steps = depthAt w i;
       few = omega (arith, h .held i l .depth-few, l, h .taken-in, h .fit .room .few);
       last = nodeAt w i;
-      bytes = chainBytes w first (depthAt w i) i;
+      bytes = chain i;
       trail = chain-is-trail i l;
       arrived = arrived;
       whole = refl;
@@ -84,13 +89,20 @@ module _ (plan vs ps : List ℕ) (t : Task) where
     -- a record for the seed, one for each step and one for the end
     pub route-long : Lawful world → (i : ℕ) → i < s .counts .taken → length (routeBytes w (t .trip) i) ≡ 32 * (depthAt w i + 2)
     unfolding routeBytes endAfter
-    route-long lawful i l = length-append (chainBytes w first (depthAt w i) i) _ ∙ omega (arith, trail-long lawful (chain-is-trail i l), end-is-32 (endingOf (t .trip .goal) (nodeAt w i) .points) (t .trip .goal) (endingOf (t .trip .goal) (nodeAt w i) .length))
+    route-long lawful i l =
+        let goal = t .trip .goal in
+        let ended = endingOf goal (nodeAt w i) in
+        length-append (chain i) _ ∙ omega (arith, trail-long lawful (chain-is-trail i l), end-is-32 (ended .points) goal (ended .length))
 
   -- ---- start and goal in one polygon
 
   pub straight-long : length (straightBytes (t .trip)) ≡ 64
   unfolding straightBytes endAfter
-  straight-long = length-append (seedBytes (t .trip .from) (t .trip .start)) _ ∙ omega (arith, seed-is-32 (t .trip .from) (t .trip .start), end-is-32 (endingOf (t .trip .goal) (seedNode (t .trip .start) (t .trip .from)) .points) (t .trip .goal) (endingOf (t .trip .goal) (seedNode (t .trip .start) (t .trip .from)) .length))
+  straight-long =
+      let goal = t .trip .goal in
+      let ended = endingOf goal (seedNode (t .trip .start) (t .trip .from)) in
+      length-append (seedBytes (t .trip .from) (t .trip .start)) _
+      ∙ omega (arith, seed-is-32 (t .trip .from) (t .trip .start), end-is-32 (ended .points) goal (ended .length))
 
   pub straight-is-true : t .trip .from ≡ t .trip .to → TrueRoute world (straightBytes (t .trip))
   unfolding straightBytes endAfter worldIn isInGoal seedNode

@@ -1,4 +1,5 @@
--- From a sound state every place that is taken can be told: the rows of its chain lie in the lent buffers. Rests on specs/Sound and specs/Writing. Assumes nothing.
+-- From a sound state every place that is taken can be told: the rows of its chain lie in the lent buffers. Rests on specs/Sound and specs/Writing.
+-- Assumes nothing.
 use Prim.Native.Nat.{ℕ, zero, suc, _+_, _*_, _≤_, _<_}
 use native.Mathlib.Decide.{decLt}
 use native.Mathlib.Numerals.{add-one}
@@ -23,19 +24,25 @@ module _ (plan vs ps : List ℕ) (t : Task) (seed : Node) (s : State) (h : Sound
   w = s .work
 
   row-in : (i : ℕ) → i < s .counts .taken → Row (w .floats) (w .words) i
-  row-in i l = record { in-floats = omega (arith, h .fit .room .floats-room, l, h .taken-in); in-words = omega (arith, h .fit .room .words-room, l, h .taken-in) }
+  row-in i l = record {
+    in-floats = omega (arith, h .fit .room .floats-room, l, h .taken-in);
+    in-words = omega (arith, h .fit .room .words-room, l, h .taken-in);
+  }
 
-  lies-below : (m i : ℕ) → i < m → i < s .counts .taken → ChainLies (w .floats) (w .words) (depthAt w i) i
+  abbrev Lies : ℕ → Type 0
+  Lies i = ChainLies (w .floats) (w .words) (depthAt w i) i
+
+  lies-below : (m i : ℕ) → i < m → i < s .counts .taken → Lies i
   lies-below zero i b l = absurd (omega arith)
   lies-below (suc m) i b l = go (decLt 0 i) (lies-below m)
     where
-      go : Dec (0 < i) → ((j : ℕ) → j < m → j < s .counts .taken → ChainLies (w .floats) (w .words) (depthAt w j) j) → ChainLies (w .floats) (w .words) (depthAt w i) i
+      go : Dec (0 < i) → ((j : ℕ) → j < m → j < s .counts .taken → Lies j) → Lies i
       go (yes z) lower =
           let e = h .entered i z l in
           rw (e .deeper, add-one) (row-in i l, lower (parentAt w i) (omega (arith, e .lower, b)) (omega (arith, e .lower, l)))
       go (no z) lower =
           let zero-is : 0 ≡ i = omega arith in
-          subst (λ (j : ℕ). ChainLies (w .floats) (w .words) (depthAt w j) j) zero-is (rw (h .seed-depth) tt)
+          subst Lies zero-is (rw (h .seed-depth) tt)
 
   parent-in : (i : ℕ) → i < s .counts .taken → (parentAt w i + 1) * 8 ≤ length (w .words)
   parent-in zero l = omega (arith, h .seed-parent, h .fit .room .words-room, l, h .taken-in)

@@ -35,8 +35,13 @@ fn route_from(
     out: &mut [u8],
 ) -> Answer
     requires { ⌜ Ground (now plan) (now vertices) (now polygons) × (task .trip .from < polygonCountIn (now plan)) ⌝ }
-    requires { ⌜ Room (task .places) (workOf (now floats) (now words) (now tree)) × (1 ≤ task .places) × (sameOf (task .trip .start) (task .trip .start) ≡ true) ⌝ }
-    ensures { λ r. let f = floorIn (now (plan .entry)) (now (vertices .entry)) (now (polygons .entry)) in let before = workOf (now (floats .entry)) (now (words .entry)) (now (tree .entry)) in let after = workOf (now (floats .exit)) (now (words .exit)) (now (tree .exit)) in ⌜ searchedOf r after (now (out .exit)) ≡ routed f task budget before (now (out .entry)) ⌝ }
+    requires { ⌜ Room (task .places) (workOf (now floats) (now words) (now tree)) × (1 ≤ task .places) ⌝ }
+    requires { ⌜ sameOf (task .trip .start) (task .trip .start) ≡ true ⌝ }
+    ensures { λ r.
+        let f = floorIn (now (plan .entry)) (now (vertices .entry)) (now (polygons .entry)) in
+        let before = workOf (now (floats .entry)) (now (words .entry)) (now (tree .entry)) in
+        let after = workOf (now (floats .exit)) (now (words .exit)) (now (tree .exit)) in
+        ⌜ searchedOf r after (now (out .exit)) ≡ routed f task budget before (now (out .entry)) ⌝ }
 {
     let trip = task.trip;
     if trip.from == trip.to {
@@ -59,7 +64,11 @@ fn route_between(
     out: &mut [u8],
 ) -> Answer
     requires { ⌜ Ground (now plan) (now vertices) (now polygons) × (trip .from < polygonCountIn (now plan)) × (sameOf (trip .start) (trip .start) ≡ true) ⌝ }
-    ensures { λ r. let f = floorIn (now (plan .entry)) (now (vertices .entry)) (now (polygons .entry)) in let before = workOf (now (floats .entry)) (now (words .entry)) (now (tree .entry)) in let after = workOf (now (floats .exit)) (now (words .exit)) (now (tree .exit)) in ⌜ searchedOf r after (now (out .exit)) ≡ betweenOf f trip budget before (now (out .entry)) ⌝ }
+    ensures { λ r.
+        let f = floorIn (now (plan .entry)) (now (vertices .entry)) (now (polygons .entry)) in
+        let before = workOf (now (floats .entry)) (now (words .entry)) (now (tree .entry)) in
+        let after = workOf (now (floats .exit)) (now (words .exit)) (now (tree .exit)) in
+        ⌜ searchedOf r after (now (out .exit)) ≡ betweenOf f trip budget before (now (out .entry)) ⌝ }
 {
     let places = places::places_in(floats, words, tree);
     if places == 0 {
@@ -92,7 +101,11 @@ pub fn search_on(
     out: &mut [u8],
 ) -> Answer
     requires { ⌜ Ground (now plan) (now vertices) (now polygons) ⌝ }
-    ensures { λ r. let f = floorIn (now (plan .entry)) (now (vertices .entry)) (now (polygons .entry)) in let before = workOf (now (floats .entry)) (now (words .entry)) (now (tree .entry)) in let after = workOf (now (floats .exit)) (now (words .exit)) (now (tree .exit)) in ⌜ searchedOf r after (now (out .exit)) ≡ askedOf f (now (question .entry)) budget before (now (out .entry)) ⌝ }
+    ensures { λ r.
+        let f = floorIn (now (plan .entry)) (now (vertices .entry)) (now (polygons .entry)) in
+        let before = workOf (now (floats .entry)) (now (words .entry)) (now (tree .entry)) in
+        let after = workOf (now (floats .exit)) (now (words .exit)) (now (tree .exit)) in
+        ⌜ searchedOf r after (now (out .exit)) ≡ askedOf f (now (question .entry)) budget before (now (out .entry)) ⌝ }
 {
     match floor::ask(vertices, polygons, plan, question) {
         Look::Inside(from, to) => {
@@ -124,7 +137,11 @@ pub fn search(
     tree: &mut [u32],
     out: &mut [u8],
 ) -> Answer
-    ensures { λ r. ⌜ searchedOf r (workOf (now (floats .exit)) (now (words .exit)) (now (tree .exit))) (now (out .exit)) ≡ searchOf 8 (now (vertices .entry)) (now (polygons .entry)) (now (question .entry)) budget (workOf (now (floats .entry)) (now (words .entry)) (now (tree .entry))) (now (out .entry)) ⌝ }
+    ensures { λ r.
+        let before = workOf (now (floats .entry)) (now (words .entry)) (now (tree .entry)) in
+        let after = workOf (now (floats .exit)) (now (words .exit)) (now (tree .exit)) in
+        ⌜ searchedOf r after (now (out .exit))
+        ≡ searchOf 8 (now (vertices .entry)) (now (polygons .entry)) (now (question .entry)) budget before (now (out .entry)) ⌝ }
 {
     let mut plan = [0u32; PLAN];
     match floor::look_at_floor(vertices, polygons, &mut plan) {
@@ -153,7 +170,11 @@ pub fn search_default(
     tree: &mut [u32],
     out: &mut [u8],
 ) -> Answer
-    ensures { λ r. ⌜ searchedOf r (workOf (now (floats .exit)) (now (words .exit)) (now (tree .exit))) (now (out .exit)) ≡ searchOf 8 (now (vertices .entry)) (now (polygons .entry)) (now (question .entry)) 4096 (workOf (now (floats .entry)) (now (words .entry)) (now (tree .entry))) (now (out .entry)) ⌝ }
+    ensures { λ r.
+        let before = workOf (now (floats .entry)) (now (words .entry)) (now (tree .entry)) in
+        let after = workOf (now (floats .exit)) (now (words .exit)) (now (tree .exit)) in
+        ⌜ searchedOf r after (now (out .exit))
+        ≡ searchOf 8 (now (vertices .entry)) (now (polygons .entry)) (now (question .entry)) 4096 before (now (out .entry)) ⌝ }
 {
     search(
         vertices,

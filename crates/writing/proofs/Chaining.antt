@@ -22,7 +22,8 @@ module _ (floats : List Float) (words : List ℕ) where
   lies-on zero place l h = absurd (omega arith)
   lies-on (suc k) place l h = let e : suc k - 1 ≡ k = omega arith in rw e (h .1)
 
-  chain-turn : (k place : ℕ) (out : List ℕ) → 0 < k → putChain floats words k place out ≡ putChain floats words (k - 1) (parentIn words place) (putRecord out k (stepBytes (stepIn floats words place)))
+  chain-turn : (k place : ℕ) (out : List ℕ) → 0 < k
+      → putChain floats words k place out ≡ putChain floats words (k - 1) (parentIn words place) (putRecord out k (stepBytes (stepIn floats words place)))
   unfolding putChain
   chain-turn zero place out l = absurd (omega arith)
   chain-turn (suc k) place out l = let e : suc k - 1 ≡ k = omega arith in rw e
@@ -43,9 +44,10 @@ module _ (floats : List Float) (words : List ℕ) where
     pub chaining-begins : ChainLies floats words depth i → (depth + 1) * 32 ≤ length first → Chaining depth i first first i depth
     chaining-begins h r = record { left = refl; lies = h; room = r; same = refl }
 
-    pub chaining-goes-on : (out : List ℕ) (place k : ℕ) → Chaining depth i first out place k → 0 < k → (step : Step) (put : Record) (after : List ℕ) (parent : ℕ) → step ≡ stepIn floats words place → put ≡ stepRecord step → after ≡ putRecord out k (recordBytes put)
-        → parent ≡ parentIn words place → Chaining depth i first after parent (k - 1)
-    chaining-goes-on out place k h l step put after parent a b c d =
+    pub chaining-goes-on : (out : List ℕ) (place k : ℕ) → Chaining depth i first out place k → 0 < k
+        → {step : Step} {put : Record} {after : List ℕ} {parent : ℕ} → step ≡ stepIn floats words place → put ≡ stepRecord step
+        → after ≡ putRecord out k (recordBytes put) → parent ≡ parentIn words place → Chaining depth i first after parent (k - 1)
+    chaining-goes-on out place k h l {step} {put} {after} {parent} a b c d =
         let bytes : recordBytes put ≡ stepBytes (stepIn floats words place) = ap recordBytes b ∙ step-record-bytes step ∙ ap stepBytes a in
         let now : after ≡ putRecord out k (stepBytes (stepIn floats words place)) = c ∙ ap (putRecord out k) bytes in
         let long : length after ≡ length out = ap length c ∙ put-keeps-length out k (recordBytes put) in

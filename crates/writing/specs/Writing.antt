@@ -1,5 +1,5 @@
--- How the route's bytes are put into the output: the end, then the steps down the chain of parents, then the seed. proofs/Written says that what stands there then is the
--- route. Definitions only. Assumes nothing.
+-- How the route's bytes are put into the output: the end, then the steps down the chain of parents, then the seed. proofs/Written says that what stands there
+-- then is the route. Definitions only. Assumes nothing.
 use Prim.Native.Nat.{ℕ, zero, suc, _+_, _*_, _≤_, _<_, _^_}
 use mathlib.Core.List.{List}
 use lib.Ieee.{Float}

@@ -77,8 +77,12 @@ fn write_route(
     out: &mut [u8],
 ) -> Answer
     requires { ⌜ Tellable (now floats) (now words) i ⌝ }
-    ensures { λ r. ⌜ ((queue : List ℕ) → r ≡ written (routeBytes (workOf (now (floats .entry)) (now (words .entry)) queue) trip i) steps (now (out .entry)) .answer) ⌝ }
-    ensures { λ _. ⌜ ((queue : List ℕ) → now (out .exit) ≡ written (routeBytes (workOf (now (floats .entry)) (now (words .entry)) queue) trip i) steps (now (out .entry)) .out) ⌝ }
+    ensures { λ r.
+        let work = workOf (now (floats .entry)) (now (words .entry)) in
+        ⌜ ((queue : List ℕ) → r ≡ written (routeBytes (work queue) trip i) steps (now (out .entry)) .answer) ⌝ }
+    ensures { λ _.
+        let work = workOf (now (floats .entry)) (now (words .entry)) in
+        ⌜ ((queue : List ℕ) → now (out .exit) ≡ written (routeBytes (work queue) trip i) steps (now (out .entry)) .out) ⌝ }
 {
     let depth = depth_at(words, i) as usize;
     let bytes = (depth + 2) * Record::BYTES;
@@ -110,8 +114,14 @@ pub fn write_straight(trip: Trip, out: &mut [u8]) -> Answer
 // Tells how the search ended, and writes the route if it arrived.
 pub fn tell(trip: Trip, ended: Ended, floats: &[f32], words: &[u32], out: &mut [u8]) -> Answer
     requires { ⌜ Tells (now floats) (now words) (ended .finish) ⌝ }
-    ensures { λ r. ⌜ ((queue : List ℕ) → r ≡ delivered trip (ending (stateOf (workOf (now (floats .entry)) (now (words .entry)) queue) (ended .counts)) (ended .finish)) (now (out .entry)) .answer) ⌝ }
-    ensures { λ _. ⌜ ((queue : List ℕ) → now (out .exit) ≡ delivered trip (ending (stateOf (workOf (now (floats .entry)) (now (words .entry)) queue) (ended .counts)) (ended .finish)) (now (out .entry)) .out) ⌝ }
+    ensures { λ r.
+        let work = workOf (now (floats .entry)) (now (words .entry)) in
+        let finish = ended .finish in
+        ⌜ ((queue : List ℕ) → r ≡ delivered trip (ending (stateOf (work queue) (ended .counts)) finish) (now (out .entry)) .answer) ⌝ }
+    ensures { λ _.
+        let work = workOf (now (floats .entry)) (now (words .entry)) in
+        let finish = ended .finish in
+        ⌜ ((queue : List ℕ) → now (out .exit) ≡ delivered trip (ending (stateOf (work queue) (ended .counts)) finish) (now (out .entry)) .out) ⌝ }
 {
     let counts = ended.counts;
     let steps = counts.pops;

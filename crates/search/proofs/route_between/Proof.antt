@@ -29,7 +29,7 @@ route-from-requires : tie.Need-route-from-requires
 route-from-requires c κs =
     let at-if1 = c .before .before .before .before in
     let s = start (at-if1 .before) in
-    ((s .pre .0, s .pre .1), (places-room _ (at-if1 .before .places-in .ensures), omega (arith, at-if1 .if1 .left), s .pre .2))
+    ((s .pre .0, s .pre .1), ((places-room _ (at-if1 .before .places-in .ensures), omega (arith, at-if1 .if1 .left)), s .pre .2))
 
 returns-2 : tie.Need-returns-2
 returns-2 c =

@@ -31,13 +31,13 @@ search-from-requires : tie.Need-search-from-requires
 search-from-requires c κs =
     let at-if1 = c .before .before .before in
     let s = start (at-if1 .before) in
-    (s .pre .0 .0, ((s .pre .1 .0, s .pre .1 .1), (s .pre .0 .1, ne-eqb _ _ (at-if1 .if1 .left), s .pre .1 .2)))
+    (s .pre .0 .0, (s .pre .1 .0, (s .pre .0 .1, ne-eqb _ _ (at-if1 .if1 .left), s .pre .1 .1)))
 
 tell-requires : tie.Need-tell-requires
 tell-requires c κs =
     let at-search = searched (c .before .before .before) in
     let s = start (apart at-search .before) in
-    routes-told _ _ _ _ _ _ (s .pre .0 .0) (s .pre .1 .0) (s .pre .1 .1) (s .pre .0 .1) _ (at-search .search-from .ensures)
+    routes-told _ _ _ _ _ _ (s .pre .0 .0) (s .pre .1 .0 .0) (s .pre .1 .0 .1) (s .pre .0 .1) _ (at-search .search-from .ensures)
 
 returns-2 : tie.Need-returns-2
 returns-2 c =
