@@ -30,11 +30,7 @@ module _ (words : List ℕ) {right left root : Point} where
   of-words r l k = rw (r, l, k)
 
 returns : tie.Need-returns
-returns c =
-    let c4 = c .before .before .before .before .before in
-    let c7 = c4 .before .before .before in
-    let c10 = c7 .before .before .before in
-    of-words _ (c10 .from-bits .ensures) (c7 .from-bits2 .ensures) (c4 .from-bits3 .ensures)
+returns c = of-words _ (search needs) (search needs) (search needs)
 
 pub node-of-spec : {M : Type 1} → statement M
 node-of-spec =

@@ -8,28 +8,28 @@ use Rattle.steps_c.specs.Ask.{answerNumber, answerWritten}
 use Rattle.steps_c.proofs.steps_step.Statement.{statement}
 use Rattle.steps_c.proofs.steps_step.Tie as tie
 
+abbrev to-node-of : tie.After-ask → tie.After-node-of
+to-node-of c = c .before
+
 returns : tie.Need-returns
 unfolding answerNumber answerWritten stepRecord
 returns c =
-    let c1 = c .before in
-    let c3 = c1 .before .before in
-    let c5 = c3 .before .before in
-    let c6 = c5 .before in
-    rw (← c6 .node-of .ensures, ← c5 .ask .ensures, c3 .answer .given .1) (refl, ap (λ (r : Record). r .words) (c1 .step .ensures))
+    let at-step = c .before in
+    let at-answer = at-step .before .before in
+    let at-ask = at-answer .before .before in
+    rw (← to-node-of at-ask .node-of .ensures, ← at-ask .ask .ensures, at-answer .answer .given .1) (refl, ap (λ (r : Record). r .words) (at-step .step .ensures))
 
 returns-2 : tie.Need-returns-2
 unfolding answerNumber answerWritten
 returns-2 c =
-    let c2 = c .before .before in
-    let c3 = c2 .before in
-    rw (← c3 .node-of .ensures, ← c2 .ask .ensures, c .enum-told .given .1) (refl, refl)
+    let at-ask = c .before .before in
+    rw (← to-node-of at-ask .node-of .ensures, ← at-ask .ask .ensures, c .enum-told .given .1) (refl, refl)
 
 returns-3 : tie.Need-returns-3
 unfolding answerNumber answerWritten
 returns-3 c =
-    let c2 = c .before .before in
-    let c3 = c2 .before in
-    rw (← c3 .node-of .ensures, ← c2 .ask .ensures, c .enum-told2 .given .1) (refl, refl)
+    let at-ask = c .before .before in
+    rw (← to-node-of at-ask .node-of .ensures, ← at-ask .ask .ensures, c .enum-told2 .given .1) (refl, refl)
 
 returns-4 : tie.Need-returns-4
 unfolding answerNumber answerWritten
@@ -37,7 +37,7 @@ returns-4 c =
     let at-told = c .before in
     let arm = at-told .before .before in
     let at-ask = arm .before .before in
-    rw (← at-ask .before .node-of .ensures, ← at-ask .ask .ensures, arm .answer2 .given .1) (c .number .ensures ∙ ap numberOf (at-told .told .ensures), refl)
+    rw (← to-node-of at-ask .node-of .ensures, ← at-ask .ask .ensures, arm .answer2 .given .1) (c .number .ensures ∙ ap numberOf (at-told .told .ensures), refl)
 
 pub steps-step-spec : {M : Type 1} → statement M
 steps-step-spec =

@@ -23,15 +23,11 @@ loop-holds c = (omega arith, refl)
 
 mark-edge-requires : tie.Need-mark-edge-requires Inv-loop μ-loop
 mark-edge-requires c κs =
-    let at-corner-count = c .before .before .before in
-    let start = at-corner-count .before .before in
-    ((start .pre .0, rw (at-corner-count .corner-count .ensures .0) at (c .before .loop-test .taken)), start .pre .1)
-
-add-i : tie.Need-add-i Inv-loop μ-loop
-add-i c = omega arith
-
-loop-less : tie.Need-loop-less Inv-loop μ-loop
-loop-less c = omega arith
+    let turn = c .before in
+    let l = turn .before in
+    let at-corner-count = l .before in
+    let s = at-corner-count .before .before in
+    ((s .pre .0, rw (at-corner-count .corner-count .ensures .0) at (turn .loop-test .taken)), s .pre .1)
 
 loop-again : tie.Need-loop-again Inv-loop μ-loop
 unfolding markEdges
@@ -39,11 +35,12 @@ loop-again c = (omega arith, rw (add-one, ← c .before .before .before .loop .i
 
 returns : tie.Need-returns Inv-loop μ-loop
 returns c =
-    let at-corner-count = c .before .before in
-    let e : c .before .loop .i ≡ at-corner-count .corner-count .result = omega arith in
-    rw (← at-corner-count .corner-count .ensures .0, ← e) (c .before .loop .inv .1)
+    let l = c .before in
+    let at-corner-count = l .before in
+    let e : l .loop .i ≡ at-corner-count .corner-count .result = omega arith in
+    rw (← at-corner-count .corner-count .ensures .0, ← e) (l .loop .inv .1)
 
 pub mark-edges-spec : {M : Type 1} → statement M
 mark-edges-spec =
     tie.close
-    (tie.spec Inv-loop μ-loop corner-count-requires loop-holds mark-edge-requires add-i loop-less loop-again returns)
+    (tie.spec Inv-loop μ-loop corner-count-requires loop-holds mark-edge-requires (λ c. omega arith) (λ c. omega arith) loop-again returns)

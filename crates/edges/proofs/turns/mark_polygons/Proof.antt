@@ -15,35 +15,41 @@ Inv-loop polygons plan marks₀ n p₀ marks p = (p ≤ n) × (marks ≡ markPol
 abbrev μ-loop : tie.MeasureT-loop
 μ-loop polygons plan marks₀ n p₀ marks p = n - p
 
+abbrev start : tie.After-polygon-count Inv-loop μ-loop → tie.Start Inv-loop μ-loop
+start c = c .before .before
+
+abbrev to-polygon-count : tie.At-loop Inv-loop μ-loop → tie.After-polygon-count Inv-loop μ-loop
+to-polygon-count c = c .before
+
 loop-holds : tie.Need-loop-holds Inv-loop μ-loop
 unfolding markPolygons
 loop-holds c = (omega arith, refl)
 
 mark-edges-requires : tie.Need-mark-edges-requires Inv-loop μ-loop
 mark-edges-requires c κs =
-    let at-count = c .before .before .before in
-    let start = at-count .before .before in
-    let below = rw (at-count .polygon-count .ensures) at (c .before .loop-test .taken) in
-    (lies (start .pre .0 .0) _ below, (start .pre .1 _ below, start .pre .0 .1))
+    let turn = c .before in
+    let l = turn .before in
+    let s = start (to-polygon-count l) in
+    let below = rw (to-polygon-count l .polygon-count .ensures) at (turn .loop-test .taken) in
+    (lies (s .pre .0 .0) _ below, (s .pre .1 _ below, s .pre .0 .1))
 
 loop-again : tie.Need-loop-again Inv-loop μ-loop
 unfolding markPolygons
 loop-again c =
-    let l = c .before .before in
-    let at-count = l .before .before in
-    let start = at-count .before .before in
-    let below = rw (at-count .polygon-count .ensures) at (l .loop-test .taken) in (
+    let turn = c .before .before in
+    let l = turn .before in
+    let below = rw (to-polygon-count l .polygon-count .ensures) at (turn .loop-test .taken) in (
       omega arith,
-      rw (add-one, ← l .before .loop .inv .1, polygon-read (start .pre .0 .0) (l .before .loop .p) below) (c .mark-edges .ensures),
+      rw (add-one, ← l .loop .inv .1, polygon-read (start (to-polygon-count l) .pre .0 .0) (l .loop .p) below) (c .mark-edges .ensures),
     )
 
 returns : tie.Need-returns Inv-loop μ-loop
 unfolding turnsMarked
 returns c =
-    let at-count = c .before .before in
-    let start = at-count .before .before in
-    let e : c .before .loop .p ≡ at-count .polygon-count .result = omega arith in
-    rw (polygons-counted (start .pre .0 .0), ← at-count .polygon-count .ensures, ← e) (c .before .loop .inv .1)
+    let l = c .before in
+    let at-count = to-polygon-count l in
+    let e : l .loop .p ≡ at-count .polygon-count .result = omega arith in
+    rw (polygons-counted (start at-count .pre .0 .0), ← at-count .polygon-count .ensures, ← e) (l .loop .inv .1)
 
 pub mark-polygons-spec : {M : Type 1} → statement M
 mark-polygons-spec =

@@ -1,8 +1,12 @@
 -- `stand::is_entered` meets its contract. Assumes nothing.
 use Prim.Native.Nat.{ℕ}
-use mathlib.Core.Path.{refl, ap}
+use mathlib.Core.Path.{_≡_, refl}
+use mathlib.Core.Bool.{false}
 use lib.Dec.{ltb}
 use borrow.Author.Needs.{needs}
+use Rattle.stored.specs.Stored.{Polygon, cornerCount}
+use Rattle.steps.specs.declared.Node.{Node}
+use Rattle.steps.specs.Steps.{placeOf}
 use Rattle.steps_c.specs.Ask.{isEntered}
 use Rattle.steps_c.proofs.stand.is_entered.Statement.{statement}
 use Rattle.steps_c.proofs.stand.is_entered.Tie as tie
@@ -11,12 +15,14 @@ returns : tie.Need-returns
 unfolding isEntered
 returns c = rw (c .if1 .taken) refl
 
-returns-2 : tie.Need-returns-2
+-- another node than the seed
+place-below : (q : Polygon) (node : Node) {place n : ℕ} → node .seed ≡ false → n ≡ cornerCount q → place ≡ placeOf q n (node .second)
+    → ltb place n ≡ isEntered q node
 unfolding isEntered
-returns-2 c =
-    let c1 = c .before in
-    let c3 = c1 .before .before in
-    rw (c3 .if1 .left, ← c1 .corner-count .ensures .0) (ap (λ (place : ℕ). ltb place (c1 .corner-count .result)) (c .place-of .ensures))
+place-below q node other count at = rw (other, ← count, at)
+
+returns-2 : tie.Need-returns-2
+returns-2 c = place-below _ _ (search needs) (c .before .corner-count .ensures .0) (c .place-of .ensures)
 
 pub is-entered-spec : {M : Type 1} → statement M
 is-entered-spec =

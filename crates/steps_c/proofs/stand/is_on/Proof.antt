@@ -1,73 +1,53 @@
 -- `stand::is_on` meets its contract: the floor has as many records as its lists hold. Assumes nothing.
-use mathlib.Core.Path.{refl}
+use Prim.Native.Nat.{ℕ, _<_, _≤_}
+use mathlib.Core.Path.{_≡_, refl}
+use mathlib.Core.Bool.{Bool, false}
+use mathlib.Core.List.{List}
 use borrow.Author.Needs.{needs}
 use borrow.Author.Tests.{le-ltb, lt-ltb}
-use Rattle.stored.proofs.Records.{lies, polygons-counted, polygon-read}
-use Rattle.steps_c.specs.Ask.{isOn}
+use Rattle.plan.specs.Plan.{vertexCountIn, polygonCountIn}
+use Rattle.stored.specs.Stored.{PolygonsPlanned, polygonsIn, recordIn}
+use Rattle.stored.proofs.Records.{polygons-counted, polygon-read}
+use Rattle.steps.specs.declared.Node.{Node}
+use Rattle.steps_c.specs.Ask.{isEntered, isOn}
 use Rattle.steps_c.proofs.stand.is_on.Statement.{statement}
 use Rattle.steps_c.proofs.stand.is_on.Tie as tie
 
-abbrev start : tie.Then1 → tie.Start
-start c = c .before .before .before .before .before
+module _ (plan ps : List ℕ) (node : Node) (planned : PolygonsPlanned plan ps) where
+  no-polygon : polygonCountIn plan ≤ node .polygon → false ≡ isOn (vertexCountIn plan) (polygonsIn plan ps) node
+  unfolding isOn
+  no-polygon out = rw (polygons-counted planned, le-ltb _ _ out)
 
-is-entered-requires : tie.Need-is-entered-requires
-is-entered-requires c κs =
-    let at-if1 = c .before .before .before .before in
-    lies (start at-if1 .pre) _ (rw (at-if1 .before .polygon-count .ensures) at (at-if1 .if1 .taken))
+  module _ (listed : node .polygon < polygonCountIn plan) where
+    no-first : vertexCountIn plan ≤ node .first → {r : Bool} → r ≡ false → r ≡ isOn (vertexCountIn plan) (polygonsIn plan ps) node
+    unfolding isOn
+    no-first out e = rw (polygons-counted planned, lt-ltb _ _ listed, le-ltb _ _ out) e
+
+    no-second : node .first < vertexCountIn plan → vertexCountIn plan ≤ node .second → {r : Bool} → r ≡ false
+        → r ≡ isOn (vertexCountIn plan) (polygonsIn plan ps) node
+    unfolding isOn
+    no-second first out e = rw (polygons-counted planned, lt-ltb _ _ listed, lt-ltb _ _ first, le-ltb _ _ out) e
+
+    all-listed : node .first < vertexCountIn plan → node .second < vertexCountIn plan → {entered : Bool}
+        → entered ≡ isEntered (recordIn plan ps (node .polygon)) node → entered ≡ isOn (vertexCountIn plan) (polygonsIn plan ps) node
+    unfolding isOn
+    all-listed first second e =
+        rw (polygons-counted planned, lt-ltb _ _ listed, lt-ltb _ _ first, lt-ltb _ _ second, polygon-read planned (node .polygon) listed) e
 
 returns : tie.Need-returns
-unfolding isOn
-returns c =
-    let at-if2 = c .before .before .before in
-    let at-if1 = at-if2 .before .before in
-    let at-polygons = at-if1 .before in
-    let below = rw (at-polygons .polygon-count .ensures) at (at-if1 .if1 .taken) in
-    rw (
-      polygons-counted (start at-if1 .pre),
-      ← at-polygons .polygon-count .ensures,
-      lt-ltb _ _ (at-if1 .if1 .taken),
-      ← at-polygons .before .before .vertex-count .ensures,
-      lt-ltb _ _ (at-if2 .if2 .taken),
-      lt-ltb _ _ (c .before .if3 .taken),
-      polygon-read (start at-if1 .pre) (start at-if1 .args .node .polygon) below,
-    ) (c .is-entered .ensures)
+returns c = all-listed _ _ _ (search needs) (search needs) (search needs) (search needs) (c .is-entered .ensures)
 
 returns-2 : tie.Need-returns-2
-unfolding isOn
-returns-2 c =
-    let at-if2 = c .before .before in
-    let at-if1 = at-if2 .before .before in
-    let at-polygons = at-if1 .before in
-    rw (
-      polygons-counted (start at-if1 .pre),
-      ← at-polygons .polygon-count .ensures,
-      lt-ltb _ _ (at-if1 .if1 .taken),
-      ← at-polygons .before .before .vertex-count .ensures,
-      lt-ltb _ _ (at-if2 .if2 .taken),
-      le-ltb _ _ (c .if3 .left),
-    ) refl
+returns-2 c = no-second _ _ _ (search needs) (search needs) (search needs) (search needs) (le-ltb _ _ (c .if3 .left))
 
 returns-3 : tie.Need-returns-3
-unfolding isOn
-returns-3 c =
-    let at-if1 = c .before .before in
-    let at-polygons = at-if1 .before in
-    rw (
-      polygons-counted (start at-if1 .pre),
-      ← at-polygons .polygon-count .ensures,
-      lt-ltb _ _ (at-if1 .if1 .taken),
-      ← at-polygons .before .before .vertex-count .ensures,
-      le-ltb _ _ (c .if2 .left),
-    ) refl
+returns-3 c = no-first _ _ _ (search needs) (search needs) (search needs) (le-ltb _ _ (c .if2 .left))
 
 returns-4 : tie.Need-returns-4
-unfolding isOn
-returns-4 c =
-    let s = c .before .before .before .before .before in
-    rw (polygons-counted (s .pre), ← c .before .polygon-count .ensures, le-ltb _ _ (c .if1 .left)) refl
+returns-4 c = no-polygon _ _ _ (search needs) (search needs)
 
 pub is-on-spec : {M : Type 1} → statement M
 is-on-spec =
     tie.close
-    (tie.spec (λ c κs. search needs) (λ c. search needs) (λ c κs. search needs) (λ c. search needs) (λ c. search needs) is-entered-requires
+    (tie.spec (λ c κs. search needs) (λ c. search needs) (λ c κs. search needs) (λ c. search needs) (λ c. search needs) (λ c κs. search needs)
     returns returns-2 returns-3 returns-4)
