@@ -1,9 +1,10 @@
--- Finite values over a common denominator compare as their numerators do, with their signs. `Equals x a c` of the kit says that x is finite and of magnitude a / c.
--- Rests on the definition of `lt` and `eq` alone. Assumes nothing.
+-- Finite values over a common denominator compare as their numerators do, with their signs. `Equals x a c` of the kit says that x is finite and of
+-- magnitude a / c. Rests on the definition of `lt` and `eq` alone. Assumes nothing.
 use Prim.Native.Nat.{ℕ, _+_, _*_, _<_}
 use mathlib.Core.Path.{_≡_, refl, sym, ap, ap₂, _∙_}
 use mathlib.Core.Bool.{Bool, true, false, _&&_, _||_, Bool·beq}
-use native.Mathlib.Nat.{add-mul, zero-mul, mul-pos, mul-comm, mul-right-comm, mul-assoc, mul-lt-mul-of-pos-right, lt-of-mul-lt-mul-right, eq-of-mul-eq-mul-right}
+use native.Mathlib.Nat.{add-mul, zero-mul, mul-pos, mul-comm, mul-right-comm, mul-assoc, mul-lt-mul-of-pos-right, lt-of-mul-lt-mul-right}
+use native.Mathlib.Nat.{eq-of-mul-eq-mul-right}
 use lib.Dec.{ltb, eqb}
 use lib.IntN.{ℤ}
 use lib.Ieee.{fin, up, down, below, level, lt, eq}
@@ -48,7 +49,9 @@ module _ (s : Bool) (m : ℕ) (e : ℤ) (t : Bool) (n : ℕ) (d : ℤ) (u v l : 
   left = mul-right-comm (m * up e) (down d) l ∙ ap (λ (x : ℕ). x * down d) p ∙ mul-assoc u (down e) (down d)
 
   right : n * up d * down e * l ≡ v * (down e * down d)
-  right = mul-right-comm (n * up d) (down e) l ∙ ap (λ (x : ℕ). x * down e) q ∙ mul-assoc v (down d) (down e) ∙ ap (λ (x : ℕ). v * x) (mul-comm (down d) (down e))
+  right =
+      mul-right-comm (n * up d) (down e) l ∙ ap (λ (x : ℕ). x * down e) q ∙ mul-assoc v (down d) (down e)
+      ∙ ap (λ (x : ℕ). v * x) (mul-comm (down d) (down e))
 
   pub lt-over : lt (fin s m e) (fin t n d) ≡ below s u t v
   unfolding lt

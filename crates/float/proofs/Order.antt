@@ -1,5 +1,6 @@
--- The order of the floats, over any `Float`, in a format or not. NaN is before nothing and equals nothing; all others stand in one line, the two zeros at one place.
--- A law asks that a value is no NaN only where no comparison that came out true shows it. Each law is that law of ℕ, through the ranks. Assumes nothing.
+-- The order of the floats, over any `Float`, in a format or not. NaN is before nothing and equals nothing; all others stand in one line, the two zeros
+-- at one place. A law asks that a value is no NaN only where no comparison that came out true shows it. Each law is that law of ℕ, through the ranks.
+-- Assumes nothing.
 use Prim.Native.Nat.{ℕ}
 use mathlib.Core.Path.{_≡_, refl, sym, ap, ap₂, _∙_, subst}
 use mathlib.Core.Bool.{Bool, true, false, not, _||_, Bool·beq}
@@ -175,7 +176,8 @@ fin-same s m e t n d p q h =
   where
     alike : s ≡ t → unitsOf (fin s m e) ≡ unitsOf (fin t n d) → fin s m e ≡ fin t n d
     alike g o =
-        subst (λ (t : Bool). T (fits binary32 (fin t n d)) → unitsOf (fin s m e) ≡ unitsOf (fin t n d) → fin s m e ≡ fin t n d) g (units-tell s m e n d p) q o
+        subst (λ (t : Bool). T (fits binary32 (fin t n d)) → unitsOf (fin s m e) ≡ unitsOf (fin t n d) → fin s m e ≡ fin t n d) g
+        (units-tell s m e n d p) q o
 
 pub eq-same : (x y : Float) → T (fits binary32 x) → T (fits binary32 y) → eq x y ≡ true → (x ≡ y) ⊎ (IsZero x × IsZero y)
 unfolding eq

@@ -1,5 +1,6 @@
--- Any three floats but NaN have ranks: natural numbers that compare as they do. So a law of the order of ℕ is a law of the floats, infinities and both zeros included.
--- The finite ones are written over a common denominator 1 / l, and moved up by a number k above all of them, where the infinities stand. Assumes nothing.
+-- Any three floats but NaN have ranks: natural numbers that compare as they do. So a law of the order of ℕ is a law of the floats, infinities and
+-- both zeros included. The finite ones are written over a common denominator 1 / l, and moved up by a number k above all of them, where the infinities
+-- stand. Assumes nothing.
 use Prim.Native.Nat.{ℕ, suc, _+_, _-_, _*_, _≤_, _<_}
 use mathlib.Core.Path.{_≡_, refl, sym, ap, ap₂, _∙_}
 use mathlib.Core.Bool.{Bool, true, false, not, _&&_, _||_, Bool·beq, cond}

@@ -3,7 +3,8 @@
 use Prim.Native.Nat.{ℕ, zero, suc, _+_, _-_, _*_, _/_, _%_, _^_, _≤_, _<_}
 use mathlib.Core.Path.{_≡_, refl, sym, ap, _∙_, subst}
 use mathlib.Core.Bool.{Bool, true, false, _&&_, _||_, Bool·beq, cond}
-use native.Mathlib.Nat.{le-trans, mod-eq-of-lt, mul-assoc, mul-right-comm, mul-pos, mul-one, one-mul, zero-mul, mul-div-cancel, lt-of-not-le, le-of-suc-le-suc, lt-of-lt-of-le, lt-irrefl, mul-lt-mul-of-pos-right, lt-of-mul-lt-mul-right}
+use native.Mathlib.Nat.{le-trans, mod-eq-of-lt, mul-assoc, mul-right-comm, mul-pos, mul-one, one-mul, zero-mul, mul-div-cancel, lt-of-not-le}
+use native.Mathlib.Nat.{le-of-suc-le-suc, lt-of-lt-of-le, lt-irrefl, mul-lt-mul-of-pos-right, lt-of-mul-lt-mul-right}
 use native.Mathlib.Omega.{arith}
 use borrow.Author.Tests.{lt-leb, eq-eqb, ne-eqb}
 use lib.Count.{trailingZeros}
@@ -87,7 +88,9 @@ module _ (s : Bool) (m : ℕ) (e : ℤ) (h : T (fits binary32 (fin s m e))) wher
 -- ---- how large it is
 
 below-of : (u m e d l t : ℕ) → u * d ≡ m * e * l → m * e < t * d → 0 < l → u < t * l
-below-of u m e d l t a b p = lt-of-mul-lt-mul-right d (subst (λ (x : ℕ). x < t * l * d) (sym a) (subst (λ (x : ℕ). m * e * l < x) (mul-right-comm t d l) (mul-lt-mul-of-pos-right b p)))
+below-of u m e d l t a b p =
+    lt-of-mul-lt-mul-right d
+    (subst (λ (x : ℕ). x < t * l * d) (sym a) (subst (λ (x : ℕ). m * e * l < x) (mul-right-comm t d l) (mul-lt-mul-of-pos-right b p)))
 
 pub units-below : (x : Float) → T (fits binary32 x) → unitsOf x < 2 ^ 277
 unfolding unitsOf
@@ -99,12 +102,15 @@ units-below (fin s m e) h = below-of (unitsOf (fin s m e)) m (up e) (down e) (2 
 
 module _ (s : Bool) (m : ℕ) (e : ℤ) (t : Bool) (n : ℕ) (d : ℤ) (h : T (fits binary32 (fin s m e))) (k : T (fits binary32 (fin t n d))) where
   pub lt-by-signed-units : lt (fin s m e) (fin t n d) ≡ below s (unitsOf (fin s m e)) t (unitsOf (fin t n d))
-  lt-by-signed-units = lt-over s m e t n d (unitsOf (fin s m e)) (unitsOf (fin t n d)) (2 ^ 149) (lit< tt) (sym (units-exact s m e h)) (sym (units-exact t n d k))
+  lt-by-signed-units =
+      lt-over s m e t n d (unitsOf (fin s m e)) (unitsOf (fin t n d)) (2 ^ 149) (lit< tt) (sym (units-exact s m e h)) (sym (units-exact t n d k))
 
   pub eq-by-signed-units : eq (fin s m e) (fin t n d) ≡ level s (unitsOf (fin s m e)) t (unitsOf (fin t n d))
-  eq-by-signed-units = eq-over s m e t n d (unitsOf (fin s m e)) (unitsOf (fin t n d)) (2 ^ 149) (lit< tt) (sym (units-exact s m e h)) (sym (units-exact t n d k))
+  eq-by-signed-units =
+      eq-over s m e t n d (unitsOf (fin s m e)) (unitsOf (fin t n d)) (2 ^ 149) (lit< tt) (sym (units-exact s m e h)) (sym (units-exact t n d k))
 
-pub lt-by-units : (m : ℕ) (e : ℤ) (n : ℕ) (d : ℤ) → T (fits binary32 (fin false m e)) → T (fits binary32 (fin false n d)) → lt (fin false m e) (fin false n d) ≡ ltb (unitsOf (fin false m e)) (unitsOf (fin false n d))
+pub lt-by-units : (m : ℕ) (e : ℤ) (n : ℕ) (d : ℤ) → T (fits binary32 (fin false m e)) → T (fits binary32 (fin false n d))
+    → lt (fin false m e) (fin false n d) ≡ ltb (unitsOf (fin false m e)) (unitsOf (fin false n d))
 lt-by-units m e n d h k = lt-by-signed-units false m e false n d h k
 
 like-signs : (s x y : Bool) → (x && (Bool·beq s s || y)) ≡ x
@@ -113,27 +119,33 @@ like-signs true false y = refl
 like-signs false true y = refl
 like-signs false false y = refl
 
-pub eq-by-units : (s : Bool) (m : ℕ) (e : ℤ) (n : ℕ) (d : ℤ) → T (fits binary32 (fin s m e)) → T (fits binary32 (fin s n d)) → eq (fin s m e) (fin s n d) ≡ eqb (unitsOf (fin s m e)) (unitsOf (fin s n d))
+pub eq-by-units : (s : Bool) (m : ℕ) (e : ℤ) (n : ℕ) (d : ℤ) → T (fits binary32 (fin s m e)) → T (fits binary32 (fin s n d))
+    → eq (fin s m e) (fin s n d) ≡ eqb (unitsOf (fin s m e)) (unitsOf (fin s n d))
 eq-by-units s m e n d h k = eq-by-signed-units s m e s n d h k ∙ like-signs s _ _
 
 -- ---- the number and the sign tell the value
 
 toBits-of-units : (s : Bool) (m : ℕ) (e : ℤ)
-    → toBits binary32 (fin s m e) ≡ cond s (top binary32) 0 + (size (unitsOf (fin s m e)) - 24) * hid binary32 + unitsOf (fin s m e) / 2 ^ (size (unitsOf (fin s m e)) - 24)
+    → toBits binary32 (fin s m e)
+    ≡ cond s (top binary32) 0 + (size (unitsOf (fin s m e)) - 24) * hid binary32 + unitsOf (fin s m e) / 2 ^ (size (unitsOf (fin s m e)) - 24)
 unfolding toBits unitsOf
 toBits-of-units s m e = refl
 
-pub units-tell : (s : Bool) (m : ℕ) (e : ℤ) (n : ℕ) (d : ℤ) → T (fits binary32 (fin s m e)) → T (fits binary32 (fin s n d)) → unitsOf (fin s m e) ≡ unitsOf (fin s n d) → fin s m e ≡ fin s n d
+pub units-tell : (s : Bool) (m : ℕ) (e : ℤ) (n : ℕ) (d : ℤ) → T (fits binary32 (fin s m e)) → T (fits binary32 (fin s n d))
+    → unitsOf (fin s m e) ≡ unitsOf (fin s n d) → fin s m e ≡ fin s n d
 units-tell s m e n d h k p =
     sym (ofBits-toBits binary32 (fin s m e) h)
-    ∙ ap (ofBits binary32) (toBits-of-units s m e ∙ ap (λ (u : ℕ). cond s (top binary32) 0 + (size u - 24) * hid binary32 + u / 2 ^ (size u - 24)) p ∙ sym (toBits-of-units s n d))
+    ∙ ap (ofBits binary32)
+    (toBits-of-units s m e ∙ ap (λ (u : ℕ). cond s (top binary32) 0 + (size u - 24) * hid binary32 + u / 2 ^ (size u - 24)) p
+    ∙ sym (toBits-of-units s n d))
     ∙ ofBits-toBits binary32 (fin s n d) k
 
 pub units-zero : (s : Bool) (m : ℕ) (e : ℤ) → T (fits binary32 (fin s m e)) → unitsOf (fin s m e) ≡ 0 → fin s m e ≡ fin s 0 (pos 0)
 unfolding unitsOf
 units-zero s m e h p = units-tell s m e 0 (pos 0) h (unfold fits in tt) p
 
--- ---- what a bit pattern without a sign says: its exponent's field E is b / 8388608, its digits t are b % 8388608. E = 0 has no leading digit, and counts as E = 1
+-- ---- what a bit pattern without a sign says: its exponent's field E is b / 8388608, its digits t are b % 8388608. E = 0 has no leading digit,
+-- and counts as E = 1
 
 pub units-odd : (s : Bool) (t k : ℕ) → unitsOf (odd 24 s t k 149) ≡ t * 2 ^ k
 units-odd s t k = units-of-equal (odd 24 s t k 149) (t * 2 ^ k) (odd-val 24 s t k 149)
@@ -159,7 +171,8 @@ units-of-fields : (E t : ℕ) → E < 255 → unitsOf (ofFields binary32 false E
 units-of-fields zero t h = units-low false t
 units-of-fields (suc x) t h = units-high false x t h ∙ rw (eqb·suc-zero, suc-sub-one x)
 
-pub units-of-pattern : (b : ℕ) → b < 0x7F800000 → unitsOf (ofBits binary32 b) ≡ cond (eqb (b / 8388608) 0) (b % 8388608) ((8388608 + b % 8388608) * 2 ^ (b / 8388608 - 1))
+pub units-of-pattern : (b : ℕ) → b < 0x7F800000
+    → unitsOf (ofBits binary32 b) ≡ cond (eqb (b / 8388608) 0) (b % 8388608) ((8388608 + b % 8388608) * 2 ^ (b / 8388608 - 1))
 units-of-pattern b h = ap unitsOf (no-sign b (omega arith)) ∙ units-of-fields (b / 8388608) (b % 8388608) (omega arith)
 
 pub units-of-low-pattern : (b : ℕ) → b / 8388608 ≡ 0 → unitsOf (ofBits binary32 b) ≡ b % 8388608

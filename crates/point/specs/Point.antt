@@ -1,5 +1,6 @@
--- Points, their constants and their arithmetic, as document 01 has them under "Geometry". Rests on lib.Ieee's f32 and on the root of the crate `root`. Assumes nothing.
--- Each definition is what the contract of the function of that name says, with `Of` behind it: `minusOf` for `minus`, `perpDotOf` for `perp_dot`.
+-- Points, their constants and their arithmetic, as document 01 has them under "Geometry". Rests on lib.Ieee's f32 and on the root of the crate `root`.
+-- Assumes nothing. Each definition is what the contract of the function of that name says, with `Of` behind it: `minusOf` for `minus`, `perpDotOf` for
+-- `perp_dot`.
 use Prim.Native.Nat.{ℕ}
 use mathlib.Core.Bool.{Bool, _&&_, _||_}
 use lib.Ieee.{Float, binary32, ofBits, add, sub, mul, div, eq}

@@ -1,6 +1,6 @@
--- What polyanya's src/helpers.rs adds to a point, as document 01 has it under "Geometry": its side of a line, its mirror image, the lesser and the greater of two
--- numbers, whether it is on a segment. Rests on specs/Point. Assumes nothing. Each definition is what the contract of the function of that name says, with `Of` behind it.
--- A comment in quotes is 01's sentence, any other the Rust's own line or words.
+-- What polyanya's src/helpers.rs adds to a point, as document 01 has it under "Geometry": its side of a line, its mirror image, the lesser and the
+-- greater of two numbers, whether it is on a segment. Rests on specs/Point. Assumes nothing. Each definition is what the contract of the function of
+-- that name says, with `Of` behind it. A comment in quotes is 01's sentence, any other the Rust's own line or words.
 use mathlib.Core.Bool.{Bool, true, false, cond, _&&_}
 use lib.Ieee.{Float, binary32, add, sub, neg, lt, le}
 use Rattle.point.specs.declared.Point.{Point}

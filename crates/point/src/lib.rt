@@ -2,7 +2,8 @@
 // names: on which side of a line a point is, mirrored across it, on a segment, in its box. Each f32 operation is in document 01's order.
 
 ghost use mathlib.Core.Path.{_≡_};
-ghost use Rattle.point.specs.Point.{pointOf, fromBitsOf, minusOf, plusOf, timesOf, sameOf, dotOf, perpDotOf, lengthOf, distanceOf, distanceSquaredOf, projectOntoOf, endsAtOf};
+ghost use Rattle.point.specs.Point.{pointOf, fromBitsOf, minusOf, plusOf, timesOf, sameOf, dotOf, perpDotOf, lengthOf, distanceOf};
+ghost use Rattle.point.specs.Point.{distanceSquaredOf, projectOntoOf, endsAtOf};
 ghost use Rattle.point.specs.Sides.{magnitudeOf, sideOf, sameSideOf, mirrorOf, onSegmentOf, betweenOf, inBoundingBoxOf, minOf, maxOf};
 
 // A point is two f32. It is also the way from one point to another.

@@ -43,8 +43,11 @@ pub record Brought (a z : ℕ) : Type 0 where
 brought-by : (a j : ℕ) → 2 ^ j ≤ a → a < 2 ^ suc j → j ≤ 23 → Brought a (23 - j)
 brought-by a j l u g = record {
   far = omega arith;
-  low = subst (λ (v : ℕ). v ≤ a * 2 ^ (23 - j)) (sym (pow-add 2 j (23 - j)) ∙ ap (λ (v : ℕ). 2 ^ v) (up-to j 23 g)) (mul-le-mul-right (2 ^ (23 - j)) l);
-  high = subst (λ (v : ℕ). a * 2 ^ (23 - j) < v) (sym (pow-add 2 (suc j) (23 - j)) ∙ ap (λ (v : ℕ). 2 ^ v) (past j 23 g)) (mul-lt-mul-of-pos-right u (pow-pos (23 - j)));
+  low =
+      subst (λ (v : ℕ). v ≤ a * 2 ^ (23 - j)) (sym (pow-add 2 j (23 - j)) ∙ ap (λ (v : ℕ). 2 ^ v) (up-to j 23 g)) (mul-le-mul-right (2 ^ (23 - j)) l);
+  high =
+      subst (λ (v : ℕ). a * 2 ^ (23 - j) < v) (sym (pow-add 2 (suc j) (23 - j)) ∙ ap (λ (v : ℕ). 2 ^ v) (past j 23 g))
+      (mul-lt-mul-of-pos-right u (pow-pos (23 - j)));
 }
   where
     up-to : (z t : ℕ) → z ≤ t → z + (t - z) ≡ t

@@ -77,8 +77,12 @@ module _ (x : Float) {m j : ℕ} (s : Scale (squareUnits x) m j) where
   nearest : Nearest x (roundedRoot (squareUnits x))
   nearest = record {
     held = held;
-    below = λ y t. let y' = shaped y t in rw (four, units, y' .units) (midpoint-below (left m j) q (droppedBy j) close (left-low s) (y' .digits) (y' .place) (y' .short));
-    above = λ y t. let y' = shaped y t in rw (four, units, y' .units) (midpoint-above (left m j) q (droppedBy j) close (left-low s) (y' .digits) (y' .place) (y' .short));
+    below =
+        λ y t. let y' = shaped y t in
+        rw (four, units, y' .units) (midpoint-below (left m j) q (droppedBy j) close (left-low s) (y' .digits) (y' .place) (y' .short));
+    above =
+        λ y t. let y' = shaped y t in
+        rw (four, units, y' .units) (midpoint-above (left m j) q (droppedBy j) close (left-low s) (y' .digits) (y' .place) (y' .short));
   }
 
 -- ---- every positive finite f32 is such a number
@@ -96,7 +100,8 @@ positive m e h =
     let z = leadingZeros 32 (suc m) - 8 in
     let b = brought (suc m) (zero-lt-suc m) (u .2) in
     let same : squareUnits x ≡ suc m * 2 ^ z * 2 ^ (u .0 + 149 - z) = ap (λ (v : ℕ). v * 2 ^ 149) (u .1) ∙ square-places (suc m) (u .0) z (b .far) in
-    let small : squareUnits x < 2 ^ 426 = subst (λ (v : ℕ). squareUnits x < v) (sym (pow-add 2 277 149)) (mul-lt-mul-of-pos-right (units-below x h) (pow-pos 149)) in
+    let small : squareUnits x < 2 ^ 426 = subst (λ (v : ℕ). squareUnits x < v) (sym (pow-add 2 277 149))
+    (mul-lt-mul-of-pos-right (units-below x h) (pow-pos 149)) in
     nearest x (record {
       low = b .low;
       high = b .high;

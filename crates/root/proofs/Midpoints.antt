@@ -1,7 +1,8 @@
 -- The midpoints of q * 2 ^ k and any other number of at most 24 digits, squared, lie on that number's side of N * 4 ^ k, if q is nearest to N's root and
 -- has 24 digits. Whole numbers only. Assumes nothing.
 use Prim.Native.Nat.{ℕ, zero, suc, _+_, _-_, _*_, _/_, _%_, _^_, _≤_, _<_}
-use native.Mathlib.Nat.{le-trans, lt-of-lt-of-le, lt-of-le-of-lt, lt-of-not-le, le-of-lt, lt-irrefl, mul-lt-mul-of-pos-right, mul-le-mul-right, mul-le-mul, mul-pos, mul-assoc, lt-of-mul-lt-mul-right}
+use native.Mathlib.Nat.{le-trans, lt-of-lt-of-le, lt-of-le-of-lt, lt-of-not-le, le-of-lt, lt-irrefl, mul-lt-mul-of-pos-right, mul-le-mul-right}
+use native.Mathlib.Nat.{mul-le-mul, mul-pos, mul-assoc, lt-of-mul-lt-mul-right}
 use native.Mathlib.Decide.{decLe}
 use native.Mathlib.Omega.{arith}
 use mathlib.Core.Path.{_≡_, refl, sym, ap, _∙_, subst}
@@ -48,7 +49,9 @@ four-square k = four-pow k ∙ ap (λ (v : ℕ). 2 ^ v) (twice k) ∙ pow-add 2 
 
 -- where its digits end below those of q, the number does
 ends-below : (m i k : ℕ) → m < 2 ^ 24 → i < k → m * 2 ^ i < 2 ^ 23 * 2 ^ k
-ends-below m i k h l = lt-of-lt-of-le (mul-lt-mul-of-pos-right h (pow-pos i)) (subst (λ (v : ℕ). v ≤ 2 ^ 23 * 2 ^ k) (e i) (grow (2 ^ (i + 1)) (2 ^ k) (pow-mono (one-more i k l))))
+ends-below m i k h l =
+    lt-of-lt-of-le (mul-lt-mul-of-pos-right h (pow-pos i))
+    (subst (λ (v : ℕ). v ≤ 2 ^ 23 * 2 ^ k) (e i) (grow (2 ^ (i + 1)) (2 ^ k) (pow-mono (one-more i k l))))
   where
     one-more : (i k : ℕ) → i < k → i + 1 ≤ k
     one-more i k l = omega arith
@@ -70,7 +73,12 @@ multiple m i k h = go (decLe k i)
     back i k l = omega arith
 
     go : Dec (k ≤ i) → ((c : ℕ) × (m * 2 ^ i ≡ c * 2 ^ k)) ⊎ (m * 2 ^ i < 2 ^ 23 * 2 ^ k)
-    go (yes l) = inl (m * 2 ^ (i - k), ap (λ (v : ℕ). m * 2 ^ v) (back i k l) ∙ ap (λ (v : ℕ). m * v) (pow-add 2 (i - k) k) ∙ sym (mul-assoc m (2 ^ (i - k)) (2 ^ k)))
+    go (yes l) =
+        inl (
+          m * 2 ^ (i - k),
+          ap (λ (v : ℕ). m * 2 ^ v) (back i k l) ∙ ap (λ (v : ℕ). m * v) (pow-add 2 (i - k) k)
+              ∙ sym (mul-assoc m (2 ^ (i - k)) (2 ^ k)),
+        )
     go (no l) = inr (ends-below m i k h (lt-of-not-le l))
 
 -- ---- the two sides. P stands for 2 ^ k
@@ -91,7 +99,11 @@ module _ (n q P : ℕ) (pos : 0 < P) (close : Close n q) where
 
   -- a number Y that is below q P by P at least
   below-by : (Y : ℕ) → Y + P ≤ q * P → (Y + q * P) * (Y + q * P) < 4 * (n * (P * P))
-  below-by Y h = lt-of-le-of-lt (squared (Y + q * P) ((2 * q - 1) * P) (reach q Y h)) (subst (λ (v : ℕ). v < 4 * (n * (P * P))) (square (2 * q - 1) P) (subst (λ (v : ℕ). (2 * q - 1) * (2 * q - 1) * (P * P) < v) (mul-assoc 4 n (P * P)) (mul-lt-mul-of-pos-right (narrow q (close .low)) (mul-pos pos pos))))
+  below-by Y h =
+      lt-of-le-of-lt (squared (Y + q * P) ((2 * q - 1) * P) (reach q Y h))
+      (subst (λ (v : ℕ). v < 4 * (n * (P * P))) (square (2 * q - 1) P)
+      (subst (λ (v : ℕ). (2 * q - 1) * (2 * q - 1) * (P * P) < v) (mul-assoc 4 n (P * P))
+      (mul-lt-mul-of-pos-right (narrow q (close .low)) (mul-pos pos pos))))
     where
       squared : (a b : ℕ) → a ≤ b → a * a ≤ b * b
       squared a b l = mul-le-mul l l
@@ -132,20 +144,24 @@ module _ (n q k : ℕ) (close : Close n q) (reaches : 2 ^ 46 ≤ n) (m i : ℕ) 
   midpoint-above l =
       rw (four-square k)
       (⊎-elim
-      (λ c. subst (λ (v : ℕ). 4 * (n * (2 ^ k * 2 ^ k)) < (v + q * 2 ^ k) * (v + q * 2 ^ k)) (sym (c .1)) (over (c .0) (lt-of-mul-lt-mul-right (2 ^ k) (subst (λ (v : ℕ). q * 2 ^ k < v) (c .1) l))))
+      (λ c. subst (λ (v : ℕ). 4 * (n * (2 ^ k * 2 ^ k)) < (v + q * 2 ^ k) * (v + q * 2 ^ k)) (sym (c .1))
+      (over (c .0) (lt-of-mul-lt-mul-right (2 ^ k) (subst (λ (v : ℕ). q * 2 ^ k < v) (c .1) l))))
       (λ s. absurd (lt-irrefl (q * 2 ^ k) (lt-of-lt-of-le l (le-trans (le-of-lt s) (mul-le-mul-right (2 ^ k) (root-reaches n q close reaches))))))
       (multiple m i k short))
     where
       over : (c : ℕ) → q < c → 4 * (n * (2 ^ k * 2 ^ k)) < (c * 2 ^ k + q * 2 ^ k) * (c * 2 ^ k + q * 2 ^ k)
       over c h =
           let e : q + 1 + (c - (q + 1)) ≡ c = omega arith in
-          subst (λ (v : ℕ). 4 * (n * (2 ^ k * 2 ^ k)) < (v * 2 ^ k + q * 2 ^ k) * (v * 2 ^ k + q * 2 ^ k)) e (above-by n q (2 ^ k) (pow-pos k) close (c - (q + 1)))
+          subst (λ (v : ℕ). 4 * (n * (2 ^ k * 2 ^ k)) < (v * 2 ^ k + q * 2 ^ k) * (v * 2 ^ k + q * 2 ^ k)) e
+          (above-by n q (2 ^ k) (pow-pos k) close (c - (q + 1)))
 
   pub midpoint-below : m * 2 ^ i < q * 2 ^ k → (m * 2 ^ i + q * 2 ^ k) * (m * 2 ^ i + q * 2 ^ k) < 4 * (n * 4 ^ k)
   midpoint-below l =
       rw (four-square k)
       (⊎-elim
-      (λ c. below-by n q (2 ^ k) (pow-pos k) close (m * 2 ^ i) (subst (λ (v : ℕ). v + 2 ^ k ≤ q * 2 ^ k) (sym (c .1)) (next (c .0) q (2 ^ k) (lt-of-mul-lt-mul-right (2 ^ k) (subst (λ (v : ℕ). v < q * 2 ^ k) (c .1) l)))))
+      (λ c. below-by n q (2 ^ k) (pow-pos k) close (m * 2 ^ i)
+      (subst (λ (v : ℕ). v + 2 ^ k ≤ q * 2 ^ k) (sym (c .1))
+      (next (c .0) q (2 ^ k) (lt-of-mul-lt-mul-right (2 ^ k) (subst (λ (v : ℕ). v < q * 2 ^ k) (c .1) l)))))
       (λ s. least (decLe q (2 ^ 23)) s)
       (multiple m i k short))
     where
@@ -160,4 +176,5 @@ module _ (n q k : ℕ) (close : Close n q) (reaches : 2 ^ 46 ≤ n) (m i : ℕ) 
 
       least : Dec (q ≤ 2 ^ 23) → m * 2 ^ i < 2 ^ 23 * 2 ^ k → (m * 2 ^ i + q * 2 ^ k) * (m * 2 ^ i + q * 2 ^ k) < 4 * (n * (2 ^ k * 2 ^ k))
       least (yes h) s = below-whole n q (2 ^ k) (pow-pos k) close (m * 2 ^ i) l (le-trans (mul-le-mul h h) reaches)
-      least (no h) s = below-by n q (2 ^ k) (pow-pos k) close (m * 2 ^ i) (le-trans (grow (m * 2 ^ i) (2 ^ 23 * 2 ^ k) (2 ^ k) s) (next (2 ^ 23) q (2 ^ k) (lt-of-not-le h)))
+      least (no h) s =
+          below-by n q (2 ^ k) (pow-pos k) close (m * 2 ^ i) (le-trans (grow (m * 2 ^ i) (2 ^ 23 * 2 ^ k) (2 ^ k) s) (next (2 ^ 23) q (2 ^ k) (lt-of-not-le h)))

@@ -45,7 +45,8 @@ low-pattern-scale b p h =
     near : (z : ℕ) → 149 - z < 410
     near z = omega arith
 
-pub high-pattern-scale : (b : ℕ) → b < 0x7F800000 → 0 < b / 8388608 → Scale (squareUnits (ofBits binary32 b)) (b % 8388608 + 8388608) (b / 8388608 + 148)
+pub high-pattern-scale : (b : ℕ) → b < 0x7F800000 → 0 < b / 8388608
+    → Scale (squareUnits (ofBits binary32 b)) (b % 8388608 + 8388608) (b / 8388608 + 148)
 high-pattern-scale b h k = record {
   low = omega arith;
   high = omega arith;

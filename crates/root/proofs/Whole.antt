@@ -18,7 +18,8 @@ pub record Cut (n r : ℕ) : Type 0 where
   pub low : r * r ≤ n
   pub high : n < (r + 1) * (r + 1)
 
-digit : (a n : ℕ) (b : Bool) → (T b → (2 * a + 1) * (2 * a + 1) ≤ n) → (T (not b) → n < (2 * a + 1) * (2 * a + 1)) → Cut (n / 4) a → Cut n (cond b (2 * a + 1) (2 * a))
+digit : (a n : ℕ) (b : Bool) → (T b → (2 * a + 1) * (2 * a + 1) ≤ n) → (T (not b) → n < (2 * a + 1) * (2 * a + 1)) → Cut (n / 4) a
+    → Cut n (cond b (2 * a + 1) (2 * a))
 digit a n true h l c =
     let k : (2 * a + 1) * (2 * a + 1) ≤ n = h tt in
     let u : n / 4 < (a + 1) * (a + 1) = c .high in

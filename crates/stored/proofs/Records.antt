@@ -13,7 +13,8 @@ use Rattle.word.specs.Word.{wordAt}
 use Rattle.counts.proofs.Laws.{length-table, getD-table, first-le, first-at, first-below}
 use Rattle.point.specs.Point.{plusOf}
 use Rattle.plan.specs.Plan.{slotsIn, polygonCountIn}
-use Rattle.stored.specs.Stored.{unused, origin, vertexAt, slotAt, polygonAt, verticesOf, polygonsOf, corner, neighbour, cornerCount, polygonIn, vertexIn, recordIn, polygonsIn, Lies, PolygonsPlanned}
+use Rattle.stored.specs.Stored.{unused, origin, vertexAt, slotAt, polygonAt, verticesOf, polygonsOf, corner, neighbour, cornerCount, polygonIn}
+use Rattle.stored.specs.Stored.{vertexIn, recordIn, polygonsIn, Lies, PolygonsPlanned}
 
 -- record p is inside: as many bytes as its size stand from p times the size on
 whole : (L d p : ℕ) → p < L / d → (p + 1) * d ≤ L
@@ -65,20 +66,27 @@ module _ (s : ℕ) (bytes : List ℕ) (p : ℕ) where
   -- a polygon has no more corners than slots
   pub count-slots : cornerCount (polygonAt s bytes p) ≤ s
   unfolding cornerCount
-  count-slots = subst (λ (v : ℕ). cornerCount (polygonAt s bytes p) ≤ v) corner-slots (first-le (length (polygonAt s bytes p .corners)) (λ i. eqb (corner (polygonAt s bytes p) i) unused))
+  count-slots =
+      subst (λ (v : ℕ). cornerCount (polygonAt s bytes p) ≤ v) corner-slots
+      (first-le (length (polygonAt s bytes p .corners)) (λ i. eqb (corner (polygonAt s bytes p) i) unused))
 
   -- the corners end at an unused slot at the latest
   pub count-upto : (j : ℕ) → j < s → eqb (corner (polygonAt s bytes p) j) unused ≡ true → cornerCount (polygonAt s bytes p) ≤ j
   unfolding cornerCount
-  count-upto j l e = first-below (length (polygonAt s bytes p .corners)) (λ i. eqb (corner (polygonAt s bytes p) i) unused) j (subst (λ (n : ℕ). j < n) (sym corner-slots) l) e
+  count-upto j l e =
+      first-below (length (polygonAt s bytes p .corners)) (λ i. eqb (corner (polygonAt s bytes p) i) unused) j
+      (subst (λ (n : ℕ). j < n) (sym corner-slots) l) e
 
   -- and they go on while no slot is unused
-  pub count-past : (j : ℕ) → j < s → ((k : ℕ) → k < j + 1 → eqb (corner (polygonAt s bytes p) k) unused ≡ false) → j < cornerCount (polygonAt s bytes p)
+  pub count-past : (j : ℕ) → j < s → ((k : ℕ) → k < j + 1 → eqb (corner (polygonAt s bytes p) k) unused ≡ false)
+      → j < cornerCount (polygonAt s bytes p)
   unfolding cornerCount
   count-past j l used = go (decLt j (cornerCount (polygonAt s bytes p)))
     where
       end : cornerCount (polygonAt s bytes p) ≤ j → eqb (corner (polygonAt s bytes p) (cornerCount (polygonAt s bytes p))) unused ≡ true
-      end h = first-at (length (polygonAt s bytes p .corners)) (λ i. eqb (corner (polygonAt s bytes p) i) unused) (subst (λ (n : ℕ). cornerCount (polygonAt s bytes p) < n) (sym corner-slots) (omega (arith, h, l)))
+      end h =
+          first-at (length (polygonAt s bytes p .corners)) (λ i. eqb (corner (polygonAt s bytes p) i) unused)
+          (subst (λ (n : ℕ). cornerCount (polygonAt s bytes p) < n) (sym corner-slots) (omega (arith, h, l)))
 
       go : Dec (j < cornerCount (polygonAt s bytes p)) → j < cornerCount (polygonAt s bytes p)
       go (yes h) = h

@@ -1,5 +1,5 @@
--- Bytes and the number that they stand for, for lists of any length: a number below 256 ^ n and its n bytes give each other back, so the number tells the bytes.
--- A function that reads a slice of u8 has `Bytes` of it as `λ i. c .. .shared-slice-known .given i .fits`. Assumes nothing.
+-- Bytes and the number that they stand for, for lists of any length: a number below 256 ^ n and its n bytes give each other back, so the number tells
+-- the bytes. A function that reads a slice of u8 has `Bytes` of it as `λ i. c .. .shared-slice-known .given i .fits`. Assumes nothing.
 use Prim.Native.Nat.{ℕ, zero, suc, _+_, _*_, _/_, _%_, _^_, _<_}
 use mathlib.Core.Path.{_≡_, refl, sym, ap, ap₂, _∙_}
 use mathlib.Core.List.{List, [], _∷_}
@@ -58,7 +58,8 @@ carry b l p q h k e = omega arith
 pub littleEndian-below : (bs : List ℕ) → Bytes bs → littleEndian bs < 256 ^ length bs
 unfolding littleEndian
 littleEndian-below [] h = lit< tt
-littleEndian-below (b ∷ bs) h = carry b (littleEndian bs) (256 ^ length bs) (256 ^ suc (length bs)) (h 0) (littleEndian-below bs (tail b bs h)) (pow-succ' 256 (length bs))
+littleEndian-below (b ∷ bs) h =
+    carry b (littleEndian bs) (256 ^ length bs) (256 ^ suc (length bs)) (h 0) (littleEndian-below bs (tail b bs h)) (pow-succ' 256 (length bs))
 
 -- ---- each gives the other back
 
@@ -71,7 +72,8 @@ lower w l e = omega arith
 pub littleEndian-bytesOf : (n w : ℕ) → w < 256 ^ n → littleEndian (bytesOf n w) ≡ w
 unfolding littleEndian bytesOf
 littleEndian-bytesOf zero w h = omega arith
-littleEndian-bytesOf (suc n) w h = lower w (littleEndian (bytesOf n (w / 256))) (littleEndian-bytesOf n (w / 256) (high w (256 ^ n) (256 ^ suc n) h (pow-succ' 256 n)))
+littleEndian-bytesOf (suc n) w h =
+    lower w (littleEndian (bytesOf n (w / 256))) (littleEndian-bytesOf n (w / 256) (high w (256 ^ n) (256 ^ suc n) h (pow-succ' 256 n)))
 
 pub bytesOf-littleEndian : (bs : List ℕ) → Bytes bs → bytesOf (length bs) (littleEndian bs) ≡ bs
 unfolding littleEndian bytesOf
@@ -105,7 +107,8 @@ behind-first : (xs : List ℕ) (k : ℕ) → getD (drop 1 xs) k 0 ≡ getD xs (s
 behind-first [] k = refl
 behind-first (x ∷ xs) k = refl
 
-pub littleEndian-tells-each : (n : ℕ) (xs ys : List ℕ) → Bytes xs → Bytes ys → littleEndian (take n xs) ≡ littleEndian (take n ys) → (k : ℕ) → k < n → getD xs k 0 ≡ getD ys k 0
+pub littleEndian-tells-each : (n : ℕ) (xs ys : List ℕ) → Bytes xs → Bytes ys → littleEndian (take n xs) ≡ littleEndian (take n ys)
+    → (k : ℕ) → k < n → getD xs k 0 ≡ getD ys k 0
 littleEndian-tells-each zero xs ys p q e k h = absurd (not-suc-le-zero h)
 littleEndian-tells-each (suc n) xs ys p q e zero h = first-digit n xs ys p q e .0
 littleEndian-tells-each (suc n) xs ys p q e (suc k) h =

@@ -1,5 +1,5 @@
--- A word that was written reads back, what stands beside it stays, and a word is its four bytes. Where a law asks that `at + 4` is at most the length, the word lies
--- within the bytes; the others hold past the end too. Rests on the laws of any number of bytes, in Bytes and Runs. Assumes nothing.
+-- A word that was written reads back, what stands beside it stays, and a word is its four bytes. Where a law asks that `at + 4` is at most the length,
+-- the word lies within the bytes; the others hold past the end too. Rests on the laws of any number of bytes, in Bytes and Runs. Assumes nothing.
 use Prim.Native.Nat.{ℕ, suc, _+_, _*_, _/_, _%_, _^_, _≤_, _<_}
 use mathlib.Core.Path.{_≡_, refl, sym, ap, _∙_}
 use mathlib.Core.Logic.{_⊎_, inl, inr}
@@ -11,7 +11,8 @@ use lib.Dec.{lit<}
 use lib.ListN.{length, getD, take, drop, set, List·getD-append}
 use lib.Seq.{sets, length-sets, take-at, drop-drop, getD-drop, getD-take, drop-append-add}
 use Rattle.word.specs.Word.{Bytes, littleEndian, bytesOf, wordAt, putWord}
-use Rattle.word.proofs.Bytes.{bytes-take, bytes-drop, bytes-sets, length-bytesOf, bytesOf-are-bytes, littleEndian-bytesOf, bytesOf-littleEndian, littleEndian-tells, littleEndian-take, littleEndian-tells-each}
+use Rattle.word.proofs.Bytes.{bytes-take, bytes-drop, bytes-sets, length-bytesOf, bytesOf-are-bytes, littleEndian-bytesOf}
+use Rattle.word.proofs.Bytes.{bytesOf-littleEndian, littleEndian-tells, littleEndian-take, littleEndian-tells-each}
 use Rattle.word.proofs.Runs.{apart-sets, apart-byte, sets-at, sets-same, length-part}
 
 -- ---- the code's form: four bytes, each by its place
@@ -22,10 +23,12 @@ step n at bytes = littleEndian-take n (drop at bytes) ∙ rw (getD-drop, add-zer
 pub word-by-bytes : (bytes : List ℕ) (at : ℕ)
     → wordAt bytes at ≡ getD bytes at 0 + getD bytes (at + 1) 0 * 0x100 + getD bytes (at + 2) 0 * 0x10000 + getD bytes (at + 3) 0 * 0x1000000
 unfolding wordAt
-word-by-bytes bytes at = rw (step 3 at bytes, step 2 (at + 1) bytes, add-assoc at 1 1, step 1 (at + 2) bytes, add-assoc at 2 1, step 0 (at + 3) bytes) (omega arith)
+word-by-bytes bytes at =
+    rw (step 3 at bytes, step 2 (at + 1) bytes, add-assoc at 1 1, step 1 (at + 2) bytes, add-assoc at 2 1, step 0 (at + 3) bytes) (omega arith)
 
 pub put-by-bytes : (bytes : List ℕ) (at w : ℕ)
-    → putWord bytes at w ≡ set (set (set (set bytes at (w % 0x100)) (at + 1) (w / 0x100 % 0x100)) (at + 2) (w / 0x10000 % 0x100)) (at + 3) (w / 0x1000000 % 0x100)
+    → putWord bytes at w ≡ set (set (set (set bytes at (w % 0x100)) (at + 1) (w / 0x100 % 0x100)) (at + 2) (w / 0x10000 % 0x100)) (at + 3)
+    (w / 0x1000000 % 0x100)
 unfolding putWord
 put-by-bytes bytes at w = rw (add-one, add-two, add-three, div-div-eq-div-mul w 256 256, div-div-eq-div-mul w 65536 256)
 
@@ -71,13 +74,15 @@ put-of-read bytes at h k =
 pub word-below : (bytes : List ℕ) (at : ℕ) → Bytes bytes → wordAt bytes at < 2 ^ 32
 word-below bytes at h = rw word-by-bytes (omega (arith, h at, h (at + 1), h (at + 2), h (at + 3)))
 
-pub word-tells-bytes : (xs ys : List ℕ) (i j : ℕ) → Bytes xs → Bytes ys → i + 4 ≤ length xs → j + 4 ≤ length ys → wordAt xs i ≡ wordAt ys j → take 4 (drop i xs) ≡ take 4 (drop j ys)
+pub word-tells-bytes : (xs ys : List ℕ) (i j : ℕ) → Bytes xs → Bytes ys → i + 4 ≤ length xs → j + 4 ≤ length ys
+    → wordAt xs i ≡ wordAt ys j → take 4 (drop i xs) ≡ take 4 (drop j ys)
 unfolding wordAt
 word-tells-bytes xs ys i j p q h k e =
     littleEndian-tells (take 4 (drop i xs)) (take 4 (drop j ys)) (bytes-take 4 (drop i xs) (bytes-drop i xs p)) (bytes-take 4 (drop j ys) (bytes-drop j ys q))
     (length-part 4 xs i h ∙ sym (length-part 4 ys j k)) e
 
-pub word-tells-each-byte : (xs ys : List ℕ) (i j : ℕ) → Bytes xs → Bytes ys → wordAt xs i ≡ wordAt ys j → (k : ℕ) → k < 4 → getD xs (i + k) 0 ≡ getD ys (j + k) 0
+pub word-tells-each-byte : (xs ys : List ℕ) (i j : ℕ) → Bytes xs → Bytes ys → wordAt xs i ≡ wordAt ys j → (k : ℕ) → k < 4
+    → getD xs (i + k) 0 ≡ getD ys (j + k) 0
 unfolding wordAt
 word-tells-each-byte xs ys i j p q e k h =
     sym (getD-drop i xs k 0) ∙ littleEndian-tells-each 4 (drop i xs) (drop j ys) (bytes-drop i xs p) (bytes-drop j ys q) e k h ∙ getD-drop j ys k 0

@@ -1,5 +1,5 @@
--- A run of elements that is read, and one that was stored with `sets`: where they lie apart nothing changes, where they are the same run what was stored is read.
--- Assumes nothing.
+-- A run of elements that is read, and one that was stored with `sets`: where they lie apart nothing changes, where they are the same run what was
+-- stored is read. Assumes nothing.
 use Prim.Native.Nat.{ℕ, zero, suc, _+_, _-_, _≤_, _<_}
 use mathlib.Core.Path.{_≡_, refl, sym, ap, _∙_}
 use mathlib.Core.Logic.{_⊎_, inl, inr}

@@ -1,5 +1,5 @@
--- A number in little-endian bytes, and a u32 at a position of a list of bytes. Definitions only, and total: past its end a list has no bytes to read, and none to change.
--- Assumes nothing.
+-- A number in little-endian bytes, and a u32 at a position of a list of bytes. Definitions only, and total: past its end a list has no bytes to read,
+-- and none to change. Assumes nothing.
 use Prim.Native.Nat.{ℕ, zero, suc, _+_, _*_, _/_, _%_, _<_}
 use mathlib.Core.List.{List, [], _∷_}
 use lib.ListN.{getD, take, drop}

@@ -16,25 +16,17 @@ some-left : (q n : ℕ) → 0 < n → n + q ≤ q * q → 1 ≤ q
 some-left zero n p h = absurd (omega arith)
 some-left (suc q) n p h = omega arith
 
-loop-holds : tie.Need-loop-holds Inv-loop μ-loop
-loop-holds c = omega arith
-
-add-loop : tie.Need-add-loop Inv-loop μ-loop
-add-loop c = omega arith
-
 mul-loop : tie.Need-mul-loop Inv-loop μ-loop
 mul-loop c = omega (arith, mul-le-mul (le-of-lt (c .loop .inv)) (le-of-lt (c .loop .inv)))
 
 sub-q : tie.Need-sub-q Inv-loop μ-loop
 sub-q c =
-    let start = c .before .before in
-    some-left (c .before .loop .q) (start .args .n) (start .pre .0) (c .loop-test .taken)
+    let l = c .before in
+    let s = l .before in
+    some-left (l .loop .q) (s .args .n) (s .pre .0) (c .loop-test .taken)
 
 loop-less : tie.Need-loop-less Inv-loop μ-loop
 loop-less c = omega (arith, sub-q c)
-
-loop-again : tie.Need-loop-again Inv-loop μ-loop
-loop-again c = omega arith
 
 returns : tie.Need-returns Inv-loop μ-loop
 returns c = c .loop-test .left
@@ -42,4 +34,4 @@ returns c = c .loop-test .left
 pub lowered-spec : {M : Type 1} → statement M
 lowered-spec =
     tie.close
-    (tie.spec Inv-loop μ-loop loop-holds add-loop mul-loop sub-q loop-less loop-again returns)
+    (tie.spec Inv-loop μ-loop (λ c. omega arith) (λ c. omega arith) mul-loop sub-q loop-less (λ c. omega arith) returns)

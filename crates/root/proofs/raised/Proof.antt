@@ -14,7 +14,7 @@ abbrev μ-loop : tie.MeasureT-loop
 
 -- where a turn begins the number has 24 digits at most
 short : (c : tie.At-loop Inv-loop μ-loop) → c .loop .q < 2 ^ 24
-short c = root-ends (c .before .args .n) (c .loop .q) (c .loop .inv) (c .before .pre .0)
+short c = let s = c .before in root-ends (s .args .n) (c .loop .q) (c .loop .inv) (s .pre .0)
 
 square : (c : tie.At-loop Inv-loop μ-loop) → c .loop .q * c .loop .q ≤ 2 ^ 48
 square c = mul-le-mul (le-of-lt (short c)) (le-of-lt (short c))
@@ -31,16 +31,10 @@ add-loop c = omega (arith, square c, short c)
 add-q : tie.Need-add-q Inv-loop μ-loop
 add-q c = omega (arith, short (c .before))
 
-loop-less : tie.Need-loop-less Inv-loop μ-loop
-loop-less c = omega arith
-
-loop-again : tie.Need-loop-again Inv-loop μ-loop
-loop-again c = omega arith
-
 returns : tie.Need-returns Inv-loop μ-loop
-returns c = (short (c .before), record { low = c .before .loop .inv; high = c .loop-test .left })
+returns c = let l = c .before in (short l, record { low = l .loop .inv; high = c .loop-test .left })
 
 pub raised-spec : {M : Type 1} → statement M
 raised-spec =
     tie.close
-    (tie.spec Inv-loop μ-loop loop-holds mul-loop add-loop add-q loop-less loop-again returns)
+    (tie.spec Inv-loop μ-loop loop-holds mul-loop add-loop add-q (λ c. omega arith) (λ c. omega arith) returns)

@@ -20,20 +20,25 @@ Inv-loop polygons plan p slots i₀ i =
 abbrev μ-loop : tie.MeasureT-loop
 μ-loop polygons plan p slots i₀ i = slots - i
 
+abbrev to-loop : tie.After-corner Inv-loop μ-loop → tie.At-loop Inv-loop μ-loop
+to-loop c = c .before .before
+
 loop-holds : tie.Need-loop-holds Inv-loop μ-loop
 loop-holds c = (c .slots .ensures, omega arith, below-none _)
 
 returns : tie.Need-returns Inv-loop μ-loop
 unfolding cornerCount
 returns c =
-    let inv = c .before .before .before .loop .inv in
+    let at-corner = c .before in
+    let inv = to-loop at-corner .loop .inv in
     let here = eq-eqb _ _ (c .if1 .taken) in
-    (rw (corner-slots _ _ _) (sym (first-is _ _ _ (omega arith) (inv .2) (λ l. rw (← c .before .corner .ensures, here)))), omega arith)
+    (rw (corner-slots _ _ _) (sym (first-is _ _ _ (omega arith) (inv .2) (λ l. rw (← at-corner .corner .ensures, here)))), omega arith)
 
 loop-again : tie.Need-loop-again Inv-loop μ-loop
 loop-again c =
-    let inv = c .before .before .before .loop .inv in
-    (inv .0, omega arith, below-more _ _ (inv .2) (rw (← c .before .corner .ensures, ne-eqb _ _ (c .if1 .left))))
+    let at-corner = c .before in
+    let inv = to-loop at-corner .loop .inv in
+    (inv .0, omega arith, below-more _ _ (inv .2) (rw (← at-corner .corner .ensures, ne-eqb _ _ (c .if1 .left))))
 
 returns-2 : tie.Need-returns-2 Inv-loop μ-loop
 unfolding cornerCount
@@ -44,4 +49,5 @@ returns-2 c =
 pub corner-count-spec : {M : Type 1} → statement M
 corner-count-spec =
     tie.close
-    (tie.spec Inv-loop μ-loop (λ c κs. search needs) loop-holds (λ c κs. search needs) returns (λ c. omega arith) (λ c. omega arith) loop-again returns-2)
+    (tie.spec Inv-loop μ-loop (λ c κs. search needs) loop-holds (λ c κs. search needs) returns (λ c. omega arith) (λ c. omega arith) loop-again
+    returns-2)

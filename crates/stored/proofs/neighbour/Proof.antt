@@ -8,8 +8,8 @@ use Rattle.stored.proofs.neighbour.Tie as tie
 returns : tie.Need-returns
 returns c =
     let at-slots = c .before in
-    let start = at-slots .before .before in
-    neighbour-read-by (at-slots .slots .ensures) (now (start .args .polygons)) (start .args .p) (start .args .i) (start .pre .1) (c .slot .ensures)
+    let s = at-slots .before .before in
+    neighbour-read-by (at-slots .slots .ensures) (now (s .args .polygons)) (s .args .p) (s .args .i) (s .pre .1) (c .slot .ensures)
 
 pub neighbour-spec : {M : Type 1} → statement M
 neighbour-spec = tie.close (tie.spec (λ c κs. search needs) (λ c. search needs) (λ c κs. search needs) returns)

@@ -8,11 +8,14 @@ use borrow.Author.Needs.{needs}
 use Rattle.stored.proofs.slot.Statement.{statement}
 use Rattle.stored.proofs.slot.Tie as tie
 
+abbrev start : tie.After-slots → tie.Start
+start c = c .before .before
+
 inside : (c : tie.After-slots)
-    → c .before .before .args .p * (c .slots .result * 8) + c .before .before .args .i * 4 + 4 ≤ length (now (c .before .before .args .polygons))
+    → start c .args .p * (c .slots .result * 8) + start c .args .i * 4 + 4 ≤ length (now (start c .args .polygons))
 inside c =
-    let start = c .before .before in
-    slot-within-by (c .slots .ensures) (length (now (start .args .polygons))) (start .args .p) (start .args .i) (start .pre .0 .1) (start .pre .1)
+    let s = start c in
+    slot-within-by (c .slots .ensures) (length (now (s .args .polygons))) (s .args .p) (s .args .i) (s .pre .0 .1) (s .pre .1)
 
 mul-read-2 : tie.Need-mul-read-2
 mul-read-2 c = omega (arith, inside c)
@@ -25,8 +28,9 @@ read-requires c κs = inside c
 
 returns : tie.Need-returns
 returns c =
-    let start = c .before .before .before in
-    slot-read-by (c .before .slots .ensures) (now (start .args .polygons)) (start .args .p) (start .args .i) (c .read .ensures)
+    let at-slots = c .before in
+    let s = start at-slots in
+    slot-read-by (at-slots .slots .ensures) (now (s .args .polygons)) (s .args .p) (s .args .i) (c .read .ensures)
 
 pub slot-spec : {M : Type 1} → statement M
 slot-spec = tie.close (tie.spec (λ c κs. search needs) (λ c. search needs) mul-read-2 (λ c. search needs) add-read read-requires returns)

@@ -3,10 +3,7 @@ use Rattle.stored.proofs.used_vertex.Statement.{statement}
 use Rattle.stored.proofs.used_vertex.Tie as tie
 
 returns : tie.Need-returns
-returns c =
-    let c1 = c .before in
-    let c2 = c1 .before in
-    rw (← c2 .stored-vertex .ensures, ← c1 .new .ensures, ← c .plus .ensures)
+returns c = let at-new = c .before in rw (← at-new .before .stored-vertex .ensures, ← at-new .new .ensures, ← c .plus .ensures)
 
 pub used-vertex-spec : {M : Type 1} → statement M
 used-vertex-spec =

@@ -1,4 +1,5 @@
--- `word::read` meets its contract: its sum of four bytes is the word, by `word-by-bytes`. Each product and sum fits, since a widened byte is below 256. Assumes nothing.
+-- `word::read` meets its contract: its sum of four bytes is the word, by `word-by-bytes`. Each product and sum fits, since a widened byte is below 256.
+-- Assumes nothing.
 use mathlib.Core.Path.{sym}
 use borrow.Author.Needs.{needs}
 use Rattle.word.proofs.Laws.{word-by-bytes}

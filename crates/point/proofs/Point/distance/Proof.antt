@@ -6,9 +6,7 @@ use Rattle.point.proofs.Point.distance.Tie as tie
 
 returns : tie.Need-returns
 unfolding distanceOf
-returns c =
-    let c1 = c .before in
-    simp (c .length .ensures, c1 .minus .ensures)
+returns c = simp (c .length .ensures, c .before .minus .ensures)
 
 pub distance-spec : {M : Type 1} → statement M
 distance-spec = tie.close (tie.spec (λ c κs. search needs) (λ c κs. search needs) returns)

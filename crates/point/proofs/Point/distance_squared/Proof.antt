@@ -6,9 +6,7 @@ use Rattle.point.proofs.Point.distance_squared.Tie as tie
 
 returns : tie.Need-returns
 unfolding distanceSquaredOf
-returns c =
-    let c1 = c .before in
-    simp (c .dot .ensures, c1 .minus .ensures)
+returns c = simp (c .dot .ensures, c .before .minus .ensures)
 
 pub distance-squared-spec : {M : Type 1} → statement M
 distance-squared-spec = tie.close (tie.spec (λ c κs. search needs) (λ c κs. search needs) returns)

@@ -6,9 +6,7 @@ use Rattle.point.proofs.Point.length.Tie as tie
 
 returns : tie.Need-returns
 unfolding lengthOf
-returns c =
-    let c1 = c .before in
-    simp (c .root .ensures, c1 .dot .ensures)
+returns c = simp (c .root .ensures, c .before .dot .ensures)
 
 pub length-spec : {M : Type 1} → statement M
 length-spec = tie.close (tie.spec (λ c κs. search needs) (λ c κs. search needs) returns)

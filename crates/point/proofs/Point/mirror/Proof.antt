@@ -15,4 +15,7 @@ returns c =
     simp (c .plus .ensures, c1 .minus3 .ensures, c2 .times .ensures, c3 .project-onto .ensures, c4 .minus2 .ensures, c5 .minus .ensures)
 
 pub mirror-spec : {M : Type 1} → statement M
-mirror-spec = tie.close (tie.spec (λ c κs. search needs) (λ c κs. search needs) (λ c κs. search needs) (λ c κs. search needs) (λ c κs. search needs) (λ c κs. search needs) returns)
+mirror-spec =
+    tie.close
+    (tie.spec (λ c κs. search needs) (λ c κs. search needs) (λ c κs. search needs) (λ c κs. search needs) (λ c κs. search needs)
+    (λ c κs. search needs) returns)

@@ -8,16 +8,13 @@ use Rattle.point.proofs.Point.on_segment.Tie as tie
 returns : tie.Need-returns
 unfolding onSegmentOf
 returns c =
-    let c1 = c .before in
-    let c2 = c1 .before in
-    let c3 = c2 .before in
-    and-taken _ _ (simp (c3 .in-bounding-box .ensures) at (c2 .if1 .taken)) (simp (c .same-side .ensures, c1 .side .ensures))
+    let at-side = c .before in
+    let at-if1 = at-side .before in
+    and-taken _ _ (simp (at-if1 .before .in-bounding-box .ensures) at (at-if1 .if1 .taken)) (simp (c .same-side .ensures, at-side .side .ensures))
 
 returns-2 : tie.Need-returns-2
 unfolding onSegmentOf
-returns-2 c =
-    let c1 = c .before in
-    and-left _ _ (simp (c1 .in-bounding-box .ensures) at (c .if1 .left)) (c .if1 .left)
+returns-2 c = and-left _ _ (simp (c .before .in-bounding-box .ensures) at (c .if1 .left)) (c .if1 .left)
 
 pub on-segment-spec : {M : Type 1} → statement M
 on-segment-spec = tie.close (tie.spec (λ c κs. search needs) (λ c κs. search needs) (λ c κs. search needs) returns returns-2)

@@ -7,16 +7,11 @@ use Rattle.point.proofs.Segment.ends_at.Tie as tie
 
 returns : tie.Need-returns
 unfolding endsAtOf
-returns c =
-    let c1 = c .before in
-    or-taken _ _ (simp (c1 .same .ensures) at (c .if1 .taken)) (c .if1 .taken)
+returns c = or-taken _ _ (simp (c .before .same .ensures) at (c .if1 .taken)) (c .if1 .taken)
 
 returns-2 : tie.Need-returns-2
 unfolding endsAtOf
-returns-2 c =
-    let c1 = c .before in
-    let c2 = c1 .before in
-    or-left _ _ (simp (c2 .same .ensures) at (c1 .if1 .left)) (simp (c .same2 .ensures))
+returns-2 c = let at-if1 = c .before in or-left _ _ (simp (at-if1 .before .same .ensures) at (at-if1 .if1 .left)) (simp (c .same2 .ensures))
 
 pub ends-at-spec : {M : Type 1} → statement M
 ends-at-spec = tie.close (tie.spec (λ c κs. search needs) (λ c κs. search needs) returns returns-2)
