@@ -14,7 +14,8 @@ use Rattle.cone.specs.declared.Cut.{Cut}
 use Rattle.cone.specs.declared.Cut.the-variants.{Kept, Away}
 use Rattle.cone.specs.declared.Clipped.{Clipped}
 use Rattle.cone.specs.declared.Clipped.the-variants.{Seen, Nothing}
-use Rattle.cone.specs.Cone.{rayOf, coneOf, hasShortRayOf, fromRightOf, fromLeftOf, bothOutsideOf, raisedOf, loweredOf, cutOf, ifKept, partInsideOf, partOf, clipOf, clipToConeOf}
+use Rattle.cone.specs.Cone.{rayOf, coneOf, hasShortRayOf, fromRightOf, fromLeftOf, bothOutsideOf, raisedOf, loweredOf, cutOf, ifKept}
+use Rattle.cone.specs.Cone.{partInsideOf, partOf, clipOf, clipToConeOf}
 use Rattle.cone.specs.Sight.{rightLength, leftLength, Unseen, outside-right, outside-left, crossed, ClipEnds}
 
 -- ---- one cone for many segments
@@ -27,7 +28,8 @@ kept-cone-clips-the-same root cone segment = refl
 -- ---- short rays
 
 -- 01, Geometry: "Cone clip: either ray shorter than 0.01 gives the segment back;"
-pub clip-short-ray : (root : Point) (cone segment : Segment) → (lt (rightLength root cone) slack ≡ true) ⊎ (lt (leftLength root cone) slack ≡ true) → clipToConeOf root cone segment ≡ Seen segment
+pub clip-short-ray : (root : Point) (cone segment : Segment)
+    → (lt (rightLength root cone) slack ≡ true) ⊎ (lt (leftLength root cone) slack ≡ true) → clipToConeOf root cone segment ≡ Seen segment
 unfolding clipToConeOf clipOf hasShortRayOf coneOf rayOf
 clip-short-ray root cone segment (inl short) = rw short
 clip-short-ray root cone segment (inr short) = rw (short, or-true (lt (rightLength root cone) slack))
@@ -82,7 +84,8 @@ module _ (cone : Cone) (segment : Segment) where
   abbrev byLeft : Part → Cut
   byLeft part = cutOf part (fromLeftOf cone (segment .0)) (fromLeftOf cone (segment .1))
 
-  outside : (first : Cut) → cutOf (record { lo = zero; hi = one }) (fromRightOf cone (segment .0)) (fromRightOf cone (segment .1)) ≡ first → ifKept first byLeft Away ≡ Away → Unseen cone segment
+  outside : (first : Cut) → cutOf (record { lo = zero; hi = one }) (fromRightOf cone (segment .0)) (fromRightOf cone (segment .1)) ≡ first
+      → ifKept first byLeft Away ≡ Away → Unseen cone segment
   outside (Kept part) e h = outside-left (cut-away part _ _ .0 h)
   outside Away e h = outside-right (cut-away _ _ _ .0 e)
 
@@ -101,7 +104,8 @@ module _ (cone : Cone) (segment : Segment) where
   nothing (outside-left h) = rw (away-left _ h)
   nothing (crossed e h) = rw (e, h)
 
-  ends : (seen : Segment) (cut : Cut) → partInsideOf cone segment ≡ cut → ifKept cut (seenPart segment) Nothing ≡ Seen seen → ClipEnds cone segment seen
+  ends : (seen : Segment) (cut : Cut) → partInsideOf cone segment ≡ cut → ifKept cut (seenPart segment) Nothing ≡ Seen seen
+      → ClipEnds cone segment seen
   unfolding partOf plusOf timesOf minusOf
   ends seen (Kept part) e h =
       let told = seen-by (lt (part .hi) (part .lo)) h in

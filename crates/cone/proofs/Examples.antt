@@ -12,7 +12,8 @@ use Rattle.point.specs.Point.{zero, one, pointOf, fromBitsOf, minusOf, plusOf, 
 use Rattle.cone.specs.declared.Cut.the-variants.{Kept}
 use Rattle.cone.specs.declared.Clipped.{Clipped}
 use Rattle.cone.specs.declared.Clipped.the-variants.{Seen, Nothing}
-use Rattle.cone.specs.Cone.{rayOf, coneOf, hasShortRayOf, fromRightOf, fromLeftOf, bothOutsideOf, fractionOf, raisedOf, loweredOf, cutOf, partInsideOf, partOf, clipOf, clipToConeOf}
+use Rattle.cone.specs.Cone.{rayOf, coneOf, hasShortRayOf, fromRightOf, fromLeftOf, bothOutsideOf, fractionOf, raisedOf, loweredOf, cutOf}
+use Rattle.cone.specs.Cone.{partInsideOf, partOf, clipOf, clipToConeOf}
 use Rattle.cone.specs.Landing.{landsOnOf}
 use Rattle.cone.proofs.Landing.{4e-6}
 
@@ -34,7 +35,9 @@ origin = fromBitsOf 0' 0'
 -- ---- the clip, root (0,0), cone (1,0),(0,1)
 
 unfoldable pub clipped : Segment → Clipped
-unfolding clipToConeOf clipOf coneOf rayOf hasShortRayOf fromRightOf fromLeftOf bothOutsideOf fractionOf raisedOf loweredOf cutOf partInsideOf partOf pointOf fromBitsOf minusOf plusOf timesOf dotOf perpDotOf lengthOf rootOf roundedRoot dropped nearestRoot wholeRoot unitsOf add sub mul div neg lt ofBits odd size
+unfolding clipToConeOf clipOf coneOf rayOf hasShortRayOf fromRightOf fromLeftOf bothOutsideOf fractionOf raisedOf loweredOf cutOf partInsideOf partOf
+    pointOf fromBitsOf minusOf plusOf timesOf dotOf perpDotOf lengthOf rootOf roundedRoot dropped nearestRoot wholeRoot unitsOf add sub mul div neg lt
+    ofBits odd size
 clipped segment = clipToConeOf origin (line 1' 0' 0' 1') segment
 
 -- 01, Fixed examples: "(2,−3),(3,−3) none"

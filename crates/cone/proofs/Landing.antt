@@ -20,4 +20,5 @@ unfolding round toBits odd size
 below-landing-squared = refl
 
 pub landing-squared-is-not-4e-6 : mul binary32 landing landing ≡ 4e-6 → ⊥
-landing-squared-is-not-4e-6 e = let h : _≡_ {A = ℕ} 0x368637BE 0x368637BD = sym landing-squared ∙ ap (toBits binary32) e ∙ below-landing-squared in omega arith
+landing-squared-is-not-4e-6 e =
+    let h : _≡_ {A = ℕ} 0x368637BE 0x368637BD = sym landing-squared ∙ ap (toBits binary32) e ∙ below-landing-squared in omega arith

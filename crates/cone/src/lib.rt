@@ -2,7 +2,8 @@
 // interval, and whether an interval's end is a vertex.
 
 ghost use mathlib.Core.Path.{_≡_};
-ghost use Rattle.cone.specs.Cone.{rayOf, coneOf, hasShortRayOf, fromRightOf, fromLeftOf, bothOutsideOf, fractionOf, raisedOf, loweredOf, cutOf, partInsideOf, partOf, clipOf, clipToConeOf};
+ghost use Rattle.cone.specs.Cone.{rayOf, coneOf, hasShortRayOf, fromRightOf, fromLeftOf, bothOutsideOf, fractionOf, raisedOf, loweredOf, cutOf};
+ghost use Rattle.cone.specs.Cone.{partInsideOf, partOf, clipOf, clipToConeOf};
 ghost use Rattle.cone.specs.Landing.{landsOnOf};
 use point::Point;
 use point::Segment;

@@ -39,7 +39,9 @@ nowhereOf kind = record { at = Nowhere; kind = kind }
 
 -- ---- the first cut, by the right ray
 
--- if intersect.distance_squared(start_point) > 1.0e-6 && intersect.distance_squared(end_point) > 1.0e-6 { push (start_point, intersect); start_point = intersect; }
+-- if intersect.distance_squared(start_point) > 1.0e-6 && intersect.distance_squared(end_point) > 1.0e-6 {
+--     push (start_point, intersect); start_point = intersect;
+-- }
 -- if intersect.distance_squared(end_point) > 1.0e-6 { ty = SuccessorType::Observable; }
 unfoldable pub firstCrossingOf : Point → Segment → SuccessorType → Cut
 firstCrossingOf intersect edge kind = record {

@@ -2,7 +2,8 @@
 // behind a cut is seen.
 
 ghost use mathlib.Core.Path.{_≡_};
-ghost use Rattle.cut.specs.Cut.{toldApartOf, apartFromBothOf, cutIfOf, seenIfOf, nowhereOf, firstCrossingOf, seenFromRightOf, unlessRightOf, firstCutOf, secondCutOf};
+ghost use Rattle.cut.specs.Cut.{toldApartOf, apartFromBothOf, cutIfOf, seenIfOf, nowhereOf, firstCrossingOf, seenFromRightOf, unlessRightOf};
+ghost use Rattle.cut.specs.Cut.{firstCutOf, secondCutOf};
 use helpers::Crossing;
 use point::EdgeSide;
 use point::Point;

@@ -1,5 +1,6 @@
--- The functions of polyanya's src/helpers.rs as document 01 has them under "Geometry", each name before its use. Rests on the definitions of `point`. Assumes nothing.
--- Each definition is what the contract of the function of that name says, with `Of` behind it. A comment in quotes is 01's sentence, any other the Rust's own line or words.
+-- The functions of polyanya's src/helpers.rs as document 01 has them under "Geometry", each name before its use. Rests on the definitions of `point`.
+-- Assumes nothing. Each definition is what the contract of the function of that name says, with `Of` behind it. A comment in quotes is 01's sentence,
+-- any other the Rust's own line or words.
 use mathlib.Core.Bool.{Bool, cond, _&&_}
 use lib.Ieee.{Float, binary32, add, div, neg, lt, le}
 use Rattle.point.specs.declared.Point.{Point}

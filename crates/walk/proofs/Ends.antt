@@ -16,7 +16,8 @@ use Rattle.cut.specs.Cut.{firstCutOf, secondCutOf, firstCrossingOf, cutIfOf, no
 use Rattle.walk.specs.Walk.{partOf, before, behind, cutOr, restOf, leftOf, walkEdgeOf}
 use Rattle.walk.proofs.All.{All, all-append}
 
-by-side : {A : Type 0} (P : A → Type 0) (side : EdgeSide) (l r e : A) → P l → P r → P e → P (elim side as (λ _. A) [ Left ↦ l | Right ↦ r | Edge ↦ e ])
+by-side : {A : Type 0} (P : A → Type 0) (side : EdgeSide) (l r e : A) → P l → P r → P e
+    → P (elim side as (λ _. A) [ Left ↦ l | Right ↦ r | Edge ↦ e ])
 by-side P Left l r e a b c = a
 by-side P Right l r e a b c = b
 by-side P Edge l r e a b c = c
@@ -35,7 +36,8 @@ module _ (P : Point → Type 0) (sums : (a b : Point) → P (plusOf a b)) where
   unfolding lineIntersectSegmentOf
   meeting line segment = go (crossesOf (intersectionTimeOf line segment))
     where
-      go : (b : Bool) → AtIt (cond b (At (plusOf (segment .0) (timesOf (minusOf (segment .1) (segment .0)) (clampOf (intersectionTimeOf line segment))))) Nowhere)
+      go : (b : Bool)
+          → AtIt (cond b (At (plusOf (segment .0) (timesOf (minusOf (segment .1) (segment .0)) (clampOf (intersectionTimeOf line segment))))) Nowhere)
       go true = sums _ _
       go false = tt
 
@@ -48,7 +50,8 @@ module _ (P : Point → Type 0) (sums : (a b : Point) → P (plusOf a b)) where
   unfolding nowhereOf
   nowhere kind = tt
 
-  by-crossing : (c : Crossing) → AtIt c → (f : Point → Cut) (n : Cut) → ((p : Point) → P p → OfCut (f p)) → OfCut n → OfCut (elim c as (λ _. Cut) [ At q ↦ f q | Nowhere ↦ n ])
+  by-crossing : (c : Crossing) → AtIt c → (f : Point → Cut) (n : Cut) → ((p : Point) → P p → OfCut (f p)) → OfCut n
+      → OfCut (elim c as (λ _. Cut) [ At q ↦ f q | Nowhere ↦ n ])
   by-crossing (At p) h f n a b = a p h
   by-crossing Nowhere h f n a b = b
 
@@ -60,7 +63,8 @@ module _ (P : Point → Type 0) (sums : (a b : Point) → P (plusOf a b)) where
   unfolding firstCutOf
   first-cut right edge kind =
       by-side OfCut (sideOf (edge .0) right) _ _ _ (nowhere _)
-      (by-crossing (lineIntersectSegmentOf right edge) (meeting right edge) (λ p. firstCrossingOf p edge kind) (nowhereOf kind) (λ p h. first-crossing p edge kind h) (nowhere kind))
+      (by-crossing (lineIntersectSegmentOf right edge) (meeting right edge) (λ p. firstCrossingOf p edge kind) (nowhereOf kind)
+      (λ p h. first-crossing p edge kind h) (nowhere kind))
       (nowhere _)
 
   second-cut : (left right edge : Segment) (kind : SuccessorType) → OfCut (secondCutOf left right edge kind)
@@ -97,7 +101,8 @@ module _ (P : Point → Type 0) (sums : (a b : Point) → P (plusOf a b)) where
       let c = second-cut left right edge kind in
       ((a, cut-or (second .at) (edge .1) c b), in-behind (second .at) (edge .1) (second .kind) c b)
 
-  pub each-end : (root : Point) (interval edge : Segment) (kind : SuccessorType) → P (edge .0) → P (edge .1) → All BothEnds (walkEdgeOf root interval edge kind .parts)
+  pub each-end : (root : Point) (interval edge : Segment) (kind : SuccessorType) → P (edge .0) → P (edge .1)
+      → All BothEnds (walkEdgeOf root interval edge kind .parts)
   unfolding walkEdgeOf leftOf
   each-end root interval edge kind a b =
       let first = firstCutOf (root, interval .0) edge kind in

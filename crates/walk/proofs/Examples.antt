@@ -32,7 +32,9 @@ pub three-parts : walkEdgeOf (fromBitsOf 0' 0') (line 1' 2' -1' 2') (line 4' 4' 
       ∷ [];
   kind = LeftNonObservable;
 }
-unfolding walkEdgeOf leftOf restOf firstCutOf secondCutOf firstCrossingOf toldApartOf apartFromBothOf cutIfOf seenIfOf nowhereOf seenFromRightOf unlessRightOf partOf sideOf lineIntersectSegmentOf intersectionTimeOf magnitudeOf crossesOf clampOf pointOf fromBitsOf minusOf plusOf timesOf dotOf perpDotOf distanceSquaredOf add sub mul div neg lt le ofBits odd size round
+unfolding walkEdgeOf leftOf restOf firstCutOf secondCutOf firstCrossingOf toldApartOf apartFromBothOf cutIfOf seenIfOf nowhereOf seenFromRightOf
+    unlessRightOf partOf sideOf lineIntersectSegmentOf intersectionTimeOf magnitudeOf crossesOf clampOf pointOf fromBitsOf minusOf plusOf timesOf dotOf
+    perpDotOf distanceSquaredOf add sub mul div neg lt le ofBits odd size round
 three-parts = refl
 
 -- (2 + 2^-11,4)-(0,4): the right ray's cut at (2,4) is too near to the start to make an interval, and what comes behind it is seen all the same
@@ -40,18 +42,23 @@ pub passed-over : walkEdgeOf (fromBitsOf 0' 0') (line 1' 2' -1' 2') (line a-hair
   parts = partOf (fromBitsOf a-hair-past-2' 4') (fromBitsOf 0' 4') Observable ∷ [];
   kind = Observable;
 }
-unfolding walkEdgeOf leftOf restOf firstCutOf secondCutOf firstCrossingOf toldApartOf apartFromBothOf cutIfOf seenIfOf nowhereOf seenFromRightOf unlessRightOf partOf sideOf lineIntersectSegmentOf intersectionTimeOf magnitudeOf crossesOf clampOf pointOf fromBitsOf minusOf plusOf timesOf dotOf perpDotOf distanceSquaredOf add sub mul div neg lt le ofBits odd size round
+unfolding walkEdgeOf leftOf restOf firstCutOf secondCutOf firstCrossingOf toldApartOf apartFromBothOf cutIfOf seenIfOf nowhereOf seenFromRightOf
+    unlessRightOf partOf sideOf lineIntersectSegmentOf intersectionTimeOf magnitudeOf crossesOf clampOf pointOf fromBitsOf minusOf plusOf timesOf dotOf
+    perpDotOf distanceSquaredOf add sub mul div neg lt le ofBits odd size round
 passed-over = refl
 
 -- ---- round a polygon
 
 -- 01, Easy to get wrong: "Assuming the walk's kinds run right, seen, left: they may return to seen." From (0,4) through (0,2)-(1,3) into the polygon
 -- (1,3) (0,2) (3,1) (0,5) by its edge 0.
-pub back-to-seen : successorsOf (fromBitsOf 0' 4') (line 0' 2' 1' 3') (fromBitsOf 1' 3' ∷ fromBitsOf 0' 2' ∷ fromBitsOf 3' 1' ∷ fromBitsOf 0' 5' ∷ []) 0 ≡
+pub back-to-seen : successorsOf (fromBitsOf 0' 4') (line 0' 2' 1' 3')
+    (fromBitsOf 1' 3' ∷ fromBitsOf 0' 2' ∷ fromBitsOf 3' 1' ∷ fromBitsOf 0' 5' ∷ []) 0 ≡
     record { edge = 1; part = partOf (fromBitsOf 0' 2') (fromBitsOf 3' 1') Observable }
     ∷ record { edge = 2; part = partOf (fromBitsOf 3' 1') (fromBitsOf 3' 1') LeftNonObservable }
     ∷ record { edge = 2; part = partOf (fromBitsOf 3' 1') (fromBitsOf 0' 5') LeftNonObservable }
     ∷ record { edge = 3; part = partOf (fromBitsOf 0' 5') (fromBitsOf 1' 3') Observable }
     ∷ []
-unfolding successorsOf others edgesFrom afterEntry wrapped edgeOf cornerOf walkOf walkEdgeOf leftOf restOf firstCutOf secondCutOf firstCrossingOf toldApartOf apartFromBothOf cutIfOf seenIfOf nowhereOf seenFromRightOf unlessRightOf partOf sideOf lineIntersectSegmentOf intersectionTimeOf magnitudeOf crossesOf clampOf pointOf fromBitsOf minusOf plusOf timesOf dotOf perpDotOf distanceSquaredOf add sub mul div neg lt le ofBits odd size round
+unfolding successorsOf others edgesFrom afterEntry wrapped edgeOf cornerOf walkOf walkEdgeOf leftOf restOf firstCutOf secondCutOf firstCrossingOf
+    toldApartOf apartFromBothOf cutIfOf seenIfOf nowhereOf seenFromRightOf unlessRightOf partOf sideOf lineIntersectSegmentOf intersectionTimeOf
+    magnitudeOf crossesOf clampOf pointOf fromBitsOf minusOf plusOf timesOf dotOf perpDotOf distanceSquaredOf add sub mul div neg lt le ofBits odd size round
 back-to-seen = refl

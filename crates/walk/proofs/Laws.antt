@@ -19,7 +19,8 @@ use Rattle.cut.specs.declared.SuccessorType.the-variants.{RightNonObservable}
 use Rattle.walk.specs.declared.Part.{Part}
 use Rattle.cut.specs.declared.Cut.{Cut}
 use Rattle.cut.specs.Cut.{firstCutOf, secondCutOf}
-use Rattle.walk.specs.Walk.{Walk, partOf, before, behind, cutOr, restOf, leftOf, walkEdgeOf, oneOf, twoOf, threeOf, held, walkedOf, partsOf, noPart, partAt}
+use Rattle.walk.specs.Walk.{Walk, partOf, before, behind, cutOr, restOf, leftOf, walkEdgeOf, oneOf, twoOf, threeOf, held, walkedOf, partsOf}
+use Rattle.walk.specs.Walk.{noPart, partAt}
 use Rattle.walk.specs.Round.{wrapped, edgeOf, afterEntry, edgesFrom, others, VisitsTheOthersOnce, walkOf, successorsOf}
 use Rattle.walk.proofs.Wrap.{wrapped-cases, up-to-the-last, from-the-first, length-edges, edge-at}
 
@@ -41,7 +42,8 @@ module _ (s e : Point) (k0 k1 k2 : SuccessorType) where
   laid-begins (At p) b = refl
   laid-begins Nowhere b = refl
 
-  laid-joins : (a b : Crossing) (i : ℕ) → suc i < length (laid a b s e k0 k1 k2) → (partAt (laid a b s e k0 k1 k2) (suc i)) .interval .0 ≡ (partAt (laid a b s e k0 k1 k2) i) .interval .1
+  laid-joins : (a b : Crossing) (i : ℕ) → suc i < length (laid a b s e k0 k1 k2)
+      → (partAt (laid a b s e k0 k1 k2) (suc i)) .interval .0 ≡ (partAt (laid a b s e k0 k1 k2) i) .interval .1
   unfolding partOf
   laid-joins (At p) (At q) zero h = refl
   laid-joins (At p) (At q) (suc zero) h = refl
@@ -145,7 +147,8 @@ module _ (root : Point) (interval edge : Segment) (kind : SuccessorType) where
 
   -- the i-th is read at i
   pub part-is-at-its-place : (i : ℕ) → i < (walkedOf walk) .count → partAt ((walkedOf walk) .parts) i ≡ partAt (walk .parts) i
-  part-is-at-its-place i h = sym (getD-take ((walkedOf walk) .count) ((walkedOf walk) .parts) i noPart h) ∙ ap (λ (ps : List Part). partAt ps i) array-holds-the-parts
+  part-is-at-its-place i h =
+      sym (getD-take ((walkedOf walk) .count) ((walkedOf walk) .parts) i noPart h) ∙ ap (λ (ps : List Part). partAt ps i) array-holds-the-parts
 
 -- ---- round a polygon
 

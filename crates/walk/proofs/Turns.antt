@@ -36,7 +36,8 @@ module _ (root : Point) (interval : Segment) (corners : List Point) where
       rw e
 
   -- before, what the turn yields, and what is left after it
-  pub left-by-turn : (round : Round) → isOverOf round ≡ false → leftOf root interval corners round ≡ yieldsOf root interval corners round ++ leftOf root interval corners (turnedOf root interval corners round)
+  pub left-by-turn : (round : Round) → isOverOf round ≡ false
+      → leftOf root interval corners round ≡ yieldsOf root interval corners round ++ leftOf root interval corners (turnedOf root interval corners round)
   unfolding leftOf isOverOf walkOf edgesFrom yieldsOf turnedOf turnOf nextOf edgeNumberOf
   left-by-turn round on =
       let h = leb-false (round .count) (round .taken + 1) on in
@@ -47,11 +48,13 @@ module _ (root : Point) (interval : Segment) (corners : List Point) where
 
   module _ (entry : ℕ) where
     -- one more turn, as the definitions have it
-    pub round-after-more : (k : ℕ) → roundAfter root interval corners entry (suc k) ≡ turnedOf root interval corners (roundAfter root interval corners entry k)
+    pub round-after-more : (k : ℕ) → roundAfter root interval corners entry (suc k)
+        ≡ turnedOf root interval corners (roundAfter root interval corners entry k)
     unfolding roundAfter
     round-after-more k = refl
 
-    pub yielded-after-more : (k : ℕ) → yieldedAfter root interval corners entry (suc k) ≡ yieldedAfter root interval corners entry k ++ yieldsOf root interval corners (roundAfter root interval corners entry k)
+    pub yielded-after-more : (k : ℕ) → yieldedAfter root interval corners entry (suc k) ≡ yieldedAfter root interval corners entry k
+        ++ yieldsOf root interval corners (roundAfter root interval corners entry k)
     unfolding yieldedAfter
     yielded-after-more k = refl
 
@@ -84,7 +87,9 @@ module _ (root : Point) (interval : Segment) (corners : List Point) where
         lt-leb (round .count) (round .taken + 1) (omega (arith, count-after k, taken-after k))
 
     -- what was yielded and what is left are the walk's successors
-    pub yielded-and-left : (k : ℕ) → k ≤ length corners - 1 → yieldedAfter root interval corners entry k ++ leftOf root interval corners (roundAfter root interval corners entry k) ≡ successorsOf root interval corners entry
+    pub yielded-and-left : (k : ℕ) → k ≤ length corners - 1
+        → yieldedAfter root interval corners entry k ++ leftOf root interval corners (roundAfter root interval corners entry k)
+        ≡ successorsOf root interval corners entry
     unfolding yieldedAfter roundAfter
     yielded-and-left zero h = left-at-begin entry
     yielded-and-left (suc k) h =
@@ -109,7 +114,8 @@ module _ (root : Point) (interval : Segment) (corners : List Point) where
         another (round .count) (round .entry) listed (round .taken) (omega arith)
 
   -- i is what `edge` gives, edge the segment that a caller finds for it, walked what `walk_edge` gives, after what `next` gives
-  module _ (round after : Round) (i : ℕ) (edge : Segment) (walked : Walked) (at : i ≡ edgeNumberOf round) (its : edge ≡ edgeOf corners i) (gave : walked ≡ walkedOf (walkEdgeOf root interval edge (round .kind))) (goes : after ≡ nextOf round (walked .kind)) where
+  module _ (round after : Round) (i : ℕ) (edge : Segment) (walked : Walked) (at : i ≡ edgeNumberOf round) (its : edge ≡ edgeOf corners i)
+      (gave : walked ≡ walkedOf (walkEdgeOf root interval edge (round .kind))) (goes : after ≡ nextOf round (walked .kind)) where
     pub turn-counts : walked .count ≡ length (partsOf walked)
     turn-counts = rw (gave, array-holds-the-parts root interval edge (round .kind)) (count-is-their-number root interval edge (round .kind))
 
@@ -126,7 +132,8 @@ module _ (root : Point) (interval : Segment) (corners : List Point) where
     turn-leaves on = rw (← turn-yields, turn-goes-on) (left-by-turn round on)
 
     -- what was yielded after k turns, and this turn's, were yielded after one more
-    pub turn-adds : (entry k : ℕ) → round ≡ roundAfter root interval corners entry k → yieldedAfter root interval corners entry (suc k) ≡ yieldedAfter root interval corners entry k ++ successorsOn i (partsOf walked)
+    pub turn-adds : (entry k : ℕ) → round ≡ roundAfter root interval corners entry k
+        → yieldedAfter root interval corners entry (suc k) ≡ yieldedAfter root interval corners entry k ++ successorsOn i (partsOf walked)
     unfolding yieldedAfter
     turn-adds entry k is = rw (← is, ← turn-yields)
 

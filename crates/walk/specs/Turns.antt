@@ -1,5 +1,5 @@
--- The walk round a polygon in turns, each by one edge: what the functions of `Round` say, and what a caller's loop has yielded or has left. Rests on specs/Round.
--- proofs/Turns has the laws. Assumes nothing.
+-- The walk round a polygon in turns, each by one edge: what the functions of `Round` say, and what a caller's loop has yielded or has left. Rests on
+-- specs/Round. proofs/Turns has the laws. Assumes nothing.
 use Prim.Native.Nat.{ℕ, zero, suc, _+_, _-_}
 use mathlib.Core.Bool.{Bool}
 use mathlib.Core.List.{List, [], _++_}

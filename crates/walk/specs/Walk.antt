@@ -1,6 +1,6 @@
--- One edge of the walk, as document 01 has it under "The walk" and edges_between of polyanya's src/instance.rs has it in its lines, which stand above what
--- renders them. Rests on the definitions of `cut`. Assumes nothing.
--- A part is the Rust's `Successor` without the edge. The contract of a function cites the definition of its name with `Of` behind it; `partOf` is for `Part::new`.
+-- One edge of the walk, as document 01 has it under "The walk" and edges_between of polyanya's src/instance.rs has it in its lines, which stand above
+-- what renders them. Rests on the definitions of `cut`. Assumes nothing. A part is the Rust's `Successor` without the edge. The contract of a function
+-- cites the definition of its name with `Of` behind it; `partOf` is for `Part::new`.
 use Prim.Native.Nat.{ℕ}
 use mathlib.Core.List.{List, [], _∷_, _++_}
 use lib.Ieee.{nan}
@@ -46,7 +46,8 @@ behind Nowhere end kind = []
 unfoldable pub leftOf : Crossing → Segment → Segment
 leftOf at edge = (cutOr at (edge .0), edge .1)
 
--- successors.push(Successor { interval: (start_point, end_intersection_p.unwrap_or(end_point)), .. }); and, with the kind that is next, what lies behind the second cut
+-- successors.push(Successor { interval: (start_point, end_intersection_p.unwrap_or(end_point)), .. }); and, with the kind that is next, what lies
+-- behind the second cut
 abbrev pub restBy : Cut → Segment → SuccessorType → Walk
 restBy second edge kind = record {
   parts = partOf (edge .0) (cutOr (second .at) (edge .1)) kind ∷ behind (second .at) (edge .1) (second .kind);

@@ -6,9 +6,7 @@ use Rattle.cone.proofs.clip_to_cone.Tie as tie
 
 returns : tie.Need-returns
 unfolding clipToConeOf
-returns c =
-    let c1 = c .before in
-    simp (c .clip .ensures, c1 .new .ensures)
+returns c = simp (c .clip .ensures, c .before .new .ensures)
 
 pub clip-to-cone-spec : {M : Type 1} → statement M
 clip-to-cone-spec = tie.close (tie.spec (λ c κs. search needs) (λ c κs. search needs) returns)

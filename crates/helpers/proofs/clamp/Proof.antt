@@ -12,15 +12,13 @@ returns c = taken _ _ (c .if1 .taken) refl
 returns-2 : tie.Need-returns-2
 unfolding clampOf
 returns-2 c =
-    let c1 = c .before in
-    left _ _ (c1 .if1 .left)
+    left _ _ (c .before .if1 .left)
     (taken _ _ (c .if2 .taken) refl)
 
 returns-3 : tie.Need-returns-3
 unfolding clampOf
 returns-3 c =
-    let c1 = c .before in
-    left _ _ (c1 .if1 .left)
+    left _ _ (c .before .if1 .left)
     (left _ _ (c .if2 .left) refl)
 
 pub clamp-spec : {M : Type 1} → statement M

@@ -55,4 +55,7 @@ returns-4 c =
     (left _ _ (simp (c3 .intersection-time .ensures, c6 .goal-beyond .ensures) at (c1 .if3 .left)) (simp (c .distance6 .ensures, c6 .goal-beyond .ensures))))
 
 pub heuristic-spec : {M : Type 1} → statement M
-heuristic-spec = tie.close (tie.spec (λ c κs. search needs) (λ c κs. search needs) (λ c κs. search needs) returns (λ c κs. search needs) (λ c κs. search needs) (λ c κs. search needs) returns-2 (λ c κs. search needs) (λ c κs. search needs) returns-3 (λ c κs. search needs) returns-4)
+heuristic-spec =
+    tie.close
+    (tie.spec (λ c κs. search needs) (λ c κs. search needs) (λ c κs. search needs) returns (λ c κs. search needs) (λ c κs. search needs)
+    (λ c κs. search needs) returns-2 (λ c κs. search needs) (λ c κs. search needs) returns-3 (λ c κs. search needs) returns-4)

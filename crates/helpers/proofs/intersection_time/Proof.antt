@@ -14,4 +14,6 @@ returns c =
     simp (c .perp-dot2 .ensures, c1 .minus3 .ensures, c2 .perp-dot .ensures, c3 .minus2 .ensures, c4 .minus .ensures)
 
 pub intersection-time-spec : {M : Type 1} → statement M
-intersection-time-spec = tie.close (tie.spec (λ c κs. search needs) (λ c κs. search needs) (λ c κs. search needs) (λ c κs. search needs) (λ c κs. search needs) returns)
+intersection-time-spec =
+    tie.close
+    (tie.spec (λ c κs. search needs) (λ c κs. search needs) (λ c κs. search needs) (λ c κs. search needs) (λ c κs. search needs) returns)

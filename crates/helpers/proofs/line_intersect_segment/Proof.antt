@@ -26,4 +26,7 @@ returns-2 c =
     left _ _ (simp (c1 .crosses .ensures, c2 .intersection-time .ensures) at (c .if1 .left)) refl
 
 pub line-intersect-segment-spec : {M : Type 1} → statement M
-line-intersect-segment-spec = tie.close (tie.spec (λ c κs. search needs) (λ c κs. search needs) (λ c κs. search needs) (λ c κs. search needs) (λ c κs. search needs) (λ c κs. search needs) returns returns-2)
+line-intersect-segment-spec =
+    tie.close
+    (tie.spec (λ c κs. search needs) (λ c κs. search needs) (λ c κs. search needs) (λ c κs. search needs) (λ c κs. search needs)
+    (λ c κs. search needs) returns returns-2)

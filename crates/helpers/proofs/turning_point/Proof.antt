@@ -54,4 +54,7 @@ returns-4 c =
     (left _ _ (simp (c1 .same-side2 .ensures, c2 .side2 .ensures, c10 .goal-beyond .ensures) at (c .if3 .left)) refl))
 
 pub turning-point-spec : {M : Type 1} → statement M
-turning-point-spec = tie.close (tie.spec (λ c κs. search needs) (λ c κs. search needs) returns (λ c κs. search needs) (λ c κs. search needs) returns-2 (λ c κs. search needs) (λ c κs. search needs) returns-3 returns-4)
+turning-point-spec =
+    tie.close
+    (tie.spec (λ c κs. search needs) (λ c κs. search needs) returns (λ c κs. search needs) (λ c κs. search needs) returns-2
+    (λ c κs. search needs) (λ c κs. search needs) returns-3 returns-4)

@@ -6,17 +6,16 @@ use Rattle.walk.proofs.cut_before.Tie as tie
 
 returns : tie.Need-returns
 returns c =
-    let c1 = c .before in
-    let c2 = c1 .before in
-    let c4 = c2 .before .before in
-    both-at _ _ _ _ _ (c4 .at .given .1) (simp (c .three .ensures, c1 .new2 .ensures, c2 .new .ensures))
+    let at-new2 = c .before in
+    let at-new = at-new2 .before in
+    let at-at = at-new .before .before in
+    both-at _ _ _ _ _ (at-at .at .given .1) (simp (c .three .ensures, at-new2 .new2 .ensures, at-new .new .ensures))
 
 returns-2 : tie.Need-returns-2
-returns-2 c =
-    let c1 = c .before in
-    let c2 = c1 .before in
-    let c4 = c2 .before .before in
-    first-only _ _ _ _ (c2 .enum-told .given .1) (simp (c .two .ensures, c1 .new3 .ensures))
+returns-2 c = let at-new3 = c .before in first-only _ _ _ _ (at-new3 .before .enum-told .given .1) (simp (c .two .ensures, at-new3 .new3 .ensures))
 
 pub cut-before-spec : {M : Type 1} → statement M
-cut-before-spec = tie.close (tie.spec (λ c. search needs) (λ c κs. search needs) (λ c κs. search needs) (λ c κs. search needs) (λ c. search needs) (λ c κs. search needs) (λ c κs. search needs) returns returns-2)
+cut-before-spec =
+    tie.close
+    (tie.spec (λ c. search needs) (λ c κs. search needs) (λ c κs. search needs) (λ c κs. search needs) (λ c. search needs) (λ c κs. search needs)
+    (λ c κs. search needs) returns returns-2)

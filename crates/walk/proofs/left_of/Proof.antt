@@ -6,9 +6,7 @@ use Rattle.walk.proofs.left_of.Tie as tie
 
 returns : tie.Need-returns
 unfolding leftOf
-returns c =
-    let c2 = c .before .before in
-    rw (c2 .at .given .1)
+returns c = let at-at = c .before .before in rw (at-at .at .given .1)
 
 returns-2 : tie.Need-returns-2
 unfolding leftOf

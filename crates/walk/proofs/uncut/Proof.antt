@@ -6,17 +6,16 @@ use Rattle.walk.proofs.uncut.Tie as tie
 
 returns : tie.Need-returns
 returns c =
-    let c1 = c .before in
-    let c2 = c1 .before in
-    let c4 = c2 .before .before in
-    second-at _ _ _ _ (c4 .at .given .1) (simp (c .two .ensures, c1 .new2 .ensures, c2 .new .ensures))
+    let at-new2 = c .before in
+    let at-new = at-new2 .before in
+    let at-at = at-new .before .before in
+    second-at _ _ _ _ (at-at .at .given .1) (simp (c .two .ensures, at-new2 .new2 .ensures, at-new .new .ensures))
 
 returns-2 : tie.Need-returns-2
-returns-2 c =
-    let c1 = c .before in
-    let c2 = c1 .before in
-    let c4 = c2 .before .before in
-    second-none _ _ _ (c2 .enum-told .given .1) (simp (c .one .ensures, c1 .new3 .ensures))
+returns-2 c = let at-new3 = c .before in second-none _ _ _ (at-new3 .before .enum-told .given .1) (simp (c .one .ensures, at-new3 .new3 .ensures))
 
 pub uncut-spec : {M : Type 1} → statement M
-uncut-spec = tie.close (tie.spec (λ c. search needs) (λ c κs. search needs) (λ c κs. search needs) (λ c κs. search needs) (λ c. search needs) (λ c κs. search needs) (λ c κs. search needs) returns returns-2)
+uncut-spec =
+    tie.close
+    (tie.spec (λ c. search needs) (λ c κs. search needs) (λ c κs. search needs) (λ c κs. search needs) (λ c. search needs) (λ c κs. search needs)
+    (λ c κs. search needs) returns returns-2)

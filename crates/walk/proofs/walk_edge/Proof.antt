@@ -6,28 +6,24 @@ use Rattle.walk.proofs.walk_edge.Tie as tie
 
 returns : tie.Need-returns
 returns c =
-    let c3 = c .before .before .before in
-    let c5 = c3 .before .before in
-    first-at _ _ _ _ (c5 .before .before .first-cut .ensures) (c5 .before .left-of .ensures) (c5 .second-cut .ensures) _ (c3 .at .given .1)
-    (rw (← c .before .new .ensures) (c .cut-before .ensures))
+    let at-new = c .before in
+    let at-at = at-new .before .before in
+    let at-second-cut = at-at .before .before in
+    let at-left-of = at-second-cut .before in
+    first-at _ _ _ _ (at-left-of .before .first-cut .ensures) (at-left-of .left-of .ensures) (at-second-cut .second-cut .ensures) _ (at-at .at .given .1)
+    (rw (← at-new .new .ensures) (c .cut-before .ensures))
 
 returns-2 : tie.Need-returns-2
 returns-2 c =
-    let c3 = c .before .before .before in
-    first-none _ _ _ _ (c3 .before .before .first-cut .ensures) (c3 .before .left-of .ensures) (c3 .second-cut .ensures) (c .before .enum-told .given .1)
+    let at-enum-told = c .before in
+    let at-second-cut = at-enum-told .before .before in
+    let at-left-of = at-second-cut .before in
+    first-none _ _ _ _ (at-left-of .before .first-cut .ensures) (at-left-of .left-of .ensures) (at-second-cut .second-cut .ensures)
+    (at-enum-told .enum-told .given .1)
     (c .uncut .ensures)
 
 pub walk-edge-spec : {M : Type 1} → statement M
 walk-edge-spec =
     tie.close
-    (tie.spec
-    (λ c κs. search needs)
-    (λ c κs. search needs)
-    (λ c κs. search needs)
-    (λ c. search needs)
-    (λ c κs. search needs)
-    (λ c κs. search needs)
-    (λ c. search needs)
-    (λ c κs. search needs)
-    returns
-    returns-2)
+    (tie.spec (λ c κs. search needs) (λ c κs. search needs) (λ c κs. search needs) (λ c. search needs) (λ c κs. search needs) (λ c κs. search needs)
+    (λ c. search needs) (λ c κs. search needs) returns returns-2)

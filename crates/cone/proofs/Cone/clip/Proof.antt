@@ -46,4 +46,7 @@ returns-4 c =
     (away _ _ (simp (c2 .part-inside .ensures) at (c .enum-told .given .1)) refl)
 
 pub clip-spec : {M : Type 1} → statement M
-clip-spec = tie.close (tie.spec (λ c κs. search needs) returns (λ c κs. search needs) (λ c. search needs) returns-2 (λ c κs. search needs) (λ c. search needs) returns-3 returns-4)
+clip-spec =
+    tie.close
+    (tie.spec (λ c κs. search needs) returns (λ c κs. search needs) (λ c. search needs) returns-2 (λ c κs. search needs) (λ c. search needs)
+    returns-3 returns-4)

@@ -6,9 +6,7 @@ use Rattle.cone.proofs.Cone.new.Tie as tie
 
 returns : tie.Need-returns
 unfolding coneOf
-returns c =
-    let c1 = c .before in
-    simp (c .new2 .ensures, c1 .new .ensures)
+returns c = simp (c .new2 .ensures, c .before .new .ensures)
 
 pub new-spec : {M : Type 1} → statement M
 new-spec = tie.close (tie.spec (λ c κs. search needs) (λ c κs. search needs) returns)

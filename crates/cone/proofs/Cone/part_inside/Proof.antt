@@ -27,4 +27,7 @@ returns-2 c =
     away _ _ (simp (c2 .cut .ensures, c3 .from-right2 .ensures, c4 .from-right .ensures) at (c .enum-told .given .1)) refl
 
 pub part-inside-spec : {M : Type 1} → statement M
-part-inside-spec = tie.close (tie.spec (λ c κs. search needs) (λ c κs. search needs) (λ c κs. search needs) (λ c. search needs) (λ c κs. search needs) (λ c κs. search needs) (λ c κs. search needs) (λ c. search needs) returns returns-2)
+part-inside-spec =
+    tie.close
+    (tie.spec (λ c κs. search needs) (λ c κs. search needs) (λ c κs. search needs) (λ c. search needs) (λ c κs. search needs)
+    (λ c κs. search needs) (λ c κs. search needs) (λ c. search needs) returns returns-2)

@@ -6,9 +6,7 @@ use Rattle.cone.proofs.Ray.new.Tie as tie
 
 returns : tie.Need-returns
 unfolding rayOf
-returns c =
-    let c1 = c .before in
-    simp (c .length .ensures, c1 .minus .ensures)
+returns c = simp (c .length .ensures, c .before .minus .ensures)
 
 pub new-spec : {M : Type 1} → statement M
 new-spec = tie.close (tie.spec (λ c κs. search needs) (λ c κs. search needs) returns)

@@ -11,7 +11,7 @@ returns c = up-to-the-last _ _ _ (c .before .before .if1 .taken)
 
 returns-2 : tie.Need-returns-2
 unfolding edgeNumberOf
-returns-2 c = from-the-first _ _ _ (c .before .before .before .before .pre .0) (c .before .if1 .left)
+returns-2 c = let at-if1 = c .before in from-the-first _ _ _ (at-if1 .before .before .before .pre .0) (at-if1 .if1 .left)
 
 pub edge-spec : {M : Type 1} → statement M
 edge-spec = tie.close (tie.spec (λ c. search needs) (λ c. search needs) (λ c. search needs) (λ c. search needs) returns returns-2)
