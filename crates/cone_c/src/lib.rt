@@ -40,7 +40,8 @@ pub extern "C" fn geometry_clip_to_cone(
     out: &mut [u32; 4],
 ) -> u32
     ensures { λ r. ⌜ r ≡ clippedNumber (clipToConeOf (fromBitsOf rx ry) (segmentOf c0x c0y c1x c1y) (segmentOf s0x s0y s1x s1y)) ⌝ }
-    ensures { λ _. ⌜ now (out .exit) ≡ clippedWritten (clipToConeOf (fromBitsOf rx ry) (segmentOf c0x c0y c1x c1y) (segmentOf s0x s0y s1x s1y)) (now (out .entry)) ⌝ }
+    ensures { λ _. ⌜ now (out .exit) ≡ clippedWritten (clipToConeOf (fromBitsOf rx ry) (segmentOf c0x c0y c1x c1y) (segmentOf s0x s0y s1x s1y))
+        (now (out .entry)) ⌝ }
 {
     let root = Point::from_bits(rx, ry);
     let clipped = cone::clip_to_cone(

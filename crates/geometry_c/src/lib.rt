@@ -138,7 +138,8 @@ pub extern "C" fn geometry_turning_point(
     out: &mut [u32; 2],
 ) -> u32
     ensures { λ r. ⌜ r ≡ turnNumber (turningPointOf (fromBitsOf rx ry) (fromBitsOf gx gy) (segmentOf i0x i0y i1x i1y)) ⌝ }
-    ensures { λ _. ⌜ now (out .exit) ≡ turnWritten (turningPointOf (fromBitsOf rx ry) (fromBitsOf gx gy) (segmentOf i0x i0y i1x i1y)) (now (out .entry)) ⌝ }
+    ensures { λ _. ⌜ now (out .exit) ≡ turnWritten (turningPointOf (fromBitsOf rx ry) (fromBitsOf gx gy) (segmentOf i0x i0y i1x i1y))
+        (now (out .entry)) ⌝ }
 {
     let root = Point::from_bits(rx, ry);
     let goal = Point::from_bits(gx, gy);
@@ -185,7 +186,8 @@ pub extern "C" fn geometry_line_intersect_segment(
     out: &mut [u32; 2],
 ) -> u32
     ensures { λ r. ⌜ r ≡ crossingNumber (lineIntersectSegmentOf (segmentOf l0x l0y l1x l1y) (segmentOf s0x s0y s1x s1y)) ⌝ }
-    ensures { λ _. ⌜ now (out .exit) ≡ crossingWritten (lineIntersectSegmentOf (segmentOf l0x l0y l1x l1y) (segmentOf s0x s0y s1x s1y)) (now (out .entry)) ⌝ }
+    ensures { λ _. ⌜ now (out .exit) ≡ crossingWritten (lineIntersectSegmentOf (segmentOf l0x l0y l1x l1y) (segmentOf s0x s0y s1x s1y))
+        (now (out .entry)) ⌝ }
 {
     let crossing = helpers::line_intersect_segment(
         segment(l0x, l0y, l1x, l1y),

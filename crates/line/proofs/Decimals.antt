@@ -22,7 +22,8 @@ same-within (suc a) zero n h g = absurd (omega arith)
 same-within (suc a) (suc b) n h g =
     go (ltb n 10) refl (λ high. same-within a b (n / 10) (omega arith) (omega arith))
   where
-    go : (t : Bool) → ltb n 10 ≡ t → (10 ≤ n → decimalWithin a (n / 10) ≡ decimalWithin b (n / 10)) → decimalWithin (suc a) n ≡ decimalWithin (suc b) n
+    go : (t : Bool) → ltb n 10 ≡ t → (10 ≤ n → decimalWithin a (n / 10) ≡ decimalWithin b (n / 10))
+        → decimalWithin (suc a) n ≡ decimalWithin (suc b) n
     go true e tenth = rw e
     go false e tenth = rw (e, tenth (ltb-false n 10 e))
 
@@ -42,7 +43,8 @@ pub decimal-more : (n : ℕ) → 10 ≤ n → decimalOf n ≡ decimalOf (n / 10)
 decimal-more n h = opened n h ∙ rw (enough n h)
 
 -- what holds of one digit, and of a number where it holds of its tenth, holds of every number
-pub by-tenths : (P : ℕ → Type 0) → ((n : ℕ) → n < 10 → P n) → ((n : ℕ) → 10 ≤ n → P (n / 10) → P n) → (bound n : ℕ) → n < bound → P n
+pub by-tenths : (P : ℕ → Type 0) → ((n : ℕ) → n < 10 → P n) → ((n : ℕ) → 10 ≤ n → P (n / 10) → P n) → (bound n : ℕ)
+    → n < bound → P n
 by-tenths P one more zero n h = absurd (omega arith)
 by-tenths P one more (suc bound) n h = go (ltb n 10) refl (λ high. by-tenths P one more bound (n / 10) (omega arith))
   where

@@ -45,7 +45,8 @@ next from text more before h put behind =
     (simp length-append (omega (arith, put .0, behind .0)), behind .1 ∙ rw (put .0, put .1, put-both from text more before h))
 
 -- a text that was put from the front on is laid there, and its bytes are counted
-pub fitting : (text before : List ℕ) {n : ℕ} {room : List ℕ} → Put 0 text before n room → (n ≡ length text) × ((room ≡ laid text before) × Counts n room)
+pub fitting : (text before : List ℕ) {n : ℕ} {room : List ℕ} → Put 0 text before n room
+    → (n ≡ length text) × ((room ≡ laid text before) × Counts n room)
 unfolding putAt laid
 fitting text before {n} put =
     let count : n ≡ length text = omega (arith, put .0) in

@@ -24,5 +24,6 @@ each-below (x ∷ xs) [] s k l = absurd s
 each-below (x ∷ xs) (u ∷ us) s zero l = s .0 .1
 each-below (x ∷ xs) (u ∷ us) s (suc k) l = each-below xs us (s .1) k (le-of-suc-le-suc l)
 
-pub words-below : (xs : List ℕ) (us : List Val) → shadow (each ℕ (UInt w32 .own) (map (λ v. v) xs) us) → (k : ℕ) → k < length xs → getD xs k 0 < 2 ^ 32
+pub words-below : (xs : List ℕ) (us : List Val) → shadow (each ℕ (UInt w32 .own) (map (λ v. v) xs) us) → (k : ℕ) → k < length xs
+    → getD xs k 0 < 2 ^ 32
 words-below xs us s = each-below xs us (subst (λ (l : List ℕ). shadow (each ℕ (UInt w32 .own) l us)) (same-map xs) s)

@@ -1,5 +1,5 @@
--- A record that is a step's bytes is read as that step, so that whoever has found a record to be a step may read the step off it. Rests on the laws of words and of bit
--- patterns. Assumes nothing.
+-- A record that is a step's bytes is read as that step, so that whoever has found a record to be a step may read the step off it. Rests on the laws of
+-- words and of bit patterns. Assumes nothing.
 use Prim.Native.Nat.{ℕ, zero, suc, _+_, _*_, _^_, _≤_, _<_}
 use native.Mathlib.Nat.{add-zero}
 use native.Mathlib.Omega.{arith}
@@ -58,11 +58,15 @@ kind-is-read RightNonObservable = refl
 float-is-read : (x : Float) → T (fits binary32 x) → (w : ℕ) → w ≡ bits x → ofBits binary32 w ≡ x
 float-is-read x h w e = ap (ofBits binary32) e ∙ ofBits-toBits binary32 x h
 
-point-is-read : (p : Point) → HeldPoint p → (file : List ℕ) (at : ℕ) → wordAt file at ≡ bits (p .x) → wordAt file (at + 4) ≡ bits (p .y) → pointIn file at ≡ p
+point-is-read : (p : Point) → HeldPoint p → (file : List ℕ) (at : ℕ) → wordAt file at ≡ bits (p .x) → wordAt file (at + 4) ≡ bits (p .y)
+    → pointIn file at ≡ p
 unfolding pointIn
-point-is-read p h file at e f = ap₂ (λ (x y : Float). record { x = x; y = y }) (float-is-read (p .x) (h .x-held) (wordAt file at) e) (float-is-read (p .y) (h .y-held) (wordAt file (at + 4)) f)
+point-is-read p h file at e f =
+    ap₂ (λ (x y : Float). record { x = x; y = y }) (float-is-read (p .x) (h .x-held) (wordAt file at) e)
+    (float-is-read (p .y) (h .y-held) (wordAt file (at + 4)) f)
 
-module _ (s : Step) (h : Held s) (file : List ℕ) (b : Bytes file) (i : ℕ) (inside : (i + 1) * 32 ≤ length file) (e : recordAt file i ≡ stepBytes s) where
+module _ (s : Step) (h : Held s) (file : List ℕ) (b : Bytes file) (i : ℕ) (inside : (i + 1) * 32 ≤ length file)
+    (e : recordAt file i ≡ stepBytes s) where
   word-is : (k : ℕ) → k < 8 → wordAt file (i * 32 + k * 4) ≡ getD (stepWords s) k 0
   word-is k l =
       let all : every 8 (stands file (i * 32) (stepWords s)) ≡ true = step-stands s h file b i inside ∙ same-of (recordAt file i) (stepBytes s) e in
@@ -87,7 +91,19 @@ module _ (s : Step) (h : Held s) (file : List ℕ) (b : Bytes file) (i : ℕ) (i
   pub step-is-read : stepIn file i ≡ s
   unfolding stepIn stepWords
   step-is-read =
-      ap₂ (λ (x : SuccessorType) (y : ℕ). record { kind = x; polygon = y; first = wordAt file (i * 32 + 8); second = wordAt file (i * 32 + 12); interval = (pointIn file (i * 32 + 16), pointIn file (i * 32 + 24)) })
+      ap₂ (λ (x : SuccessorType) (y : ℕ). record {
+        kind = x;
+        polygon = y;
+        first = wordAt file (i * 32 + 8);
+        second = wordAt file (i * 32 + 12);
+        interval = (pointIn file (i * 32 + 16), pointIn file (i * 32 + 24));
+      })
       (ap kindIn first-place ∙ kind-is-read (s .kind)) (word-is 1 (omega arith))
-      ∙ ap₂ (λ (x y : ℕ). record { kind = s .kind; polygon = s .polygon; first = x; second = y; interval = (pointIn file (i * 32 + 16), pointIn file (i * 32 + 24)) }) (word-is 2 (omega arith)) (word-is 3 (omega arith))
+      ∙ ap₂ (λ (x y : ℕ). record {
+        kind = s .kind;
+        polygon = s .polygon;
+        first = x;
+        second = y;
+        interval = (pointIn file (i * 32 + 16), pointIn file (i * 32 + 24));
+      }) (word-is 2 (omega arith)) (word-is 3 (omega arith))
       ∙ ap₂ (λ (x y : Point). record { kind = s .kind; polygon = s .polygon; first = s .first; second = s .second; interval = (x, y) }) right-is left-is

@@ -37,7 +37,8 @@ word-bytes : (file : List ℕ) (at : ℕ) → Bytes file → at + 4 ≤ length f
 unfolding wordAt
 word-bytes file at b h =
     let p = take 4 (drop at file) in
-    ap (λ (n : ℕ). bytesOf n (littleEndian p)) (sym (length-part 4 file at h)) ∙ bytesOf-littleEndian p (bytes-take 4 (drop at file) (bytes-drop at file b))
+    ap (λ (n : ℕ). bytesOf n (littleEndian p)) (sym (length-part 4 file at h))
+    ∙ bytesOf-littleEndian p (bytes-take 4 (drop at file) (bytes-drop at file b))
 
 part-splits : (n : ℕ) (file : List ℕ) (at : ℕ) → take (4 + n) (drop at file) ≡ take 4 (drop at file) ++ take n (drop (at + 4) file)
 part-splits n file at = take-add 4 n (drop at file) ∙ ap (λ (l : List ℕ). take 4 (drop at file) ++ take n l) (drop-drop 4 at file)
@@ -48,7 +49,8 @@ four-more n = omega arith
 next-place : (at k : ℕ) → at + suc k * 4 ≡ at + 4 + k * 4
 next-place at k = omega arith
 
-words-then-bytes : (ws file : List ℕ) (at : ℕ) → Bytes file → at + length ws * 4 ≤ length file → ((k : ℕ) → k < length ws → wordAt file (at + k * 4) ≡ getD ws k 0)
+words-then-bytes : (ws file : List ℕ) (at : ℕ) → Bytes file → at + length ws * 4 ≤ length file
+    → ((k : ℕ) → k < length ws → wordAt file (at + k * 4) ≡ getD ws k 0)
     → take (length ws * 4) (drop at file) ≡ wordsBytes ws
 unfolding wordsBytes
 words-then-bytes [] file at b h e = refl
@@ -59,35 +61,43 @@ words-then-bytes (w ∷ ws) file at b h e =
     ∙ ap₂ _++_ (sym (word-bytes file at b (omega arith)) ∙ ap (bytesOf 4) first)
     (words-then-bytes ws file (at + 4) b (omega arith) (λ k l. ap (wordAt file) (sym (next-place at k)) ∙ e (suc k) (omega arith)))
 
-bytes-then-words : (ws file : List ℕ) (at : ℕ) → at + length ws * 4 ≤ length file → ((k : ℕ) → k < length ws → getD ws k 0 < 2 ^ 32) → take (length ws * 4) (drop at file) ≡ wordsBytes ws
+bytes-then-words : (ws file : List ℕ) (at : ℕ) → at + length ws * 4 ≤ length file → ((k : ℕ) → k < length ws → getD ws k 0 < 2 ^ 32)
+    → take (length ws * 4) (drop at file) ≡ wordsBytes ws
     → (k : ℕ) → k < length ws → wordAt file (at + k * 4) ≡ getD ws k 0
 unfolding wordsBytes wordAt
 bytes-then-words [] file at h small e k l = absurd (not-suc-le-zero l)
-bytes-then-words (w ∷ ws) file at h small e k l = go k l (λ j m. bytes-then-words ws file (at + 4) (omega arith) (λ i n. small (suc i) (omega arith)) (parts .1) j m)
+bytes-then-words (w ∷ ws) file at h small e k l =
+    go k l (λ j m. bytes-then-words ws file (at + 4) (omega arith) (λ i n. small (suc i) (omega arith)) (parts .1) j m)
   where
     whole : take 4 (drop at file) ++ take (length ws * 4) (drop (at + 4) file) ≡ bytesOf 4 w ++ wordsBytes ws
     whole = sym (part-splits (length ws * 4) file at) ∙ ap (λ (n : ℕ). take n (drop at file)) (sym (four-more (length ws))) ∙ e
 
     parts : (take 4 (drop at file) ≡ bytesOf 4 w) × (take (length ws * 4) (drop (at + 4) file) ≡ wordsBytes ws)
-    parts = same-parts 4 (take 4 (drop at file)) (take (length ws * 4) (drop (at + 4) file)) (bytesOf 4 w) (wordsBytes ws) (length-part 4 file at (omega arith)) (length-bytesOf 4 w) whole
+    parts =
+        same-parts 4 (take 4 (drop at file)) (take (length ws * 4) (drop (at + 4) file)) (bytesOf 4 w) (wordsBytes ws)
+        (length-part 4 file at (omega arith)) (length-bytesOf 4 w) whole
 
     go : (k : ℕ) → k < suc (length ws) → ((j : ℕ) → j < length ws → littleEndian (take 4 (drop (at + 4 + j * 4) file)) ≡ getD ws j 0)
         → littleEndian (take 4 (drop (at + k * 4) file)) ≡ getD (w ∷ ws) k 0
-    go zero l below = ap (λ (n : ℕ). littleEndian (take 4 (drop n file))) (add-zero at) ∙ ap littleEndian (parts .0) ∙ littleEndian-bytesOf 4 w (small 0 (omega arith))
+    go zero l below =
+        ap (λ (n : ℕ). littleEndian (take 4 (drop n file))) (add-zero at) ∙ ap littleEndian (parts .0) ∙ littleEndian-bytesOf 4 w (small 0 (omega arith))
     go (suc j) l below = ap (λ (n : ℕ). littleEndian (take 4 (drop n file))) (next-place at j) ∙ below j (le-of-suc-le-suc l)
 
 -- words that all stand at their places are all the bytes
-pub stand-is-same : (ws file : List ℕ) (at : ℕ) → Bytes file → at + length ws * 4 ≤ length file → ((k : ℕ) → k < length ws → getD ws k 0 < 2 ^ 32)
+pub stand-is-same : (ws file : List ℕ) (at : ℕ) → Bytes file → at + length ws * 4 ≤ length file
+    → ((k : ℕ) → k < length ws → getD ws k 0 < 2 ^ 32)
     → every (length ws) (stands file at ws) ≡ sameBytes (take (length ws * 4) (drop at file)) (wordsBytes ws)
 stand-is-same ws file at b h small =
     same-test (every (length ws) (stands file at ws)) (sameBytes (take (length ws * 4) (drop at file)) (wordsBytes ws))
     (λ e. same-of (take (length ws * 4) (drop at file)) (wordsBytes ws)
     (words-then-bytes ws file at b h (λ k l. eqb-true (wordAt file (at + k * 4)) (getD ws k 0) (every-at (length ws) (stands file at ws) e k l))))
     (λ e. every-true (length ws) (stands file at ws)
-    (λ k l. eq-eqb (wordAt file (at + k * 4)) (getD ws k 0) (bytes-then-words ws file at h small (same-true (take (length ws * 4) (drop at file)) (wordsBytes ws) e) k l)))
+    (λ k l. eq-eqb (wordAt file (at + k * 4)) (getD ws k 0)
+    (bytes-then-words ws file at h small (same-true (take (length ws * 4) (drop at file)) (wordsBytes ws) e) k l)))
 
 -- the same of a record's eight words
-pub record-stands : (r : Record) (file : List ℕ) (i : ℕ) → Bytes file → (i + 1) * 32 ≤ length file → length (r .words) ≡ 8 → ((k : ℕ) → k < length (r .words) → getD (r .words) k 0 < 2 ^ 32)
+pub record-stands : (r : Record) (file : List ℕ) (i : ℕ) → Bytes file → (i + 1) * 32 ≤ length file → length (r .words) ≡ 8
+    → ((k : ℕ) → k < length (r .words) → getD (r .words) k 0 < 2 ^ 32)
     → every 8 (stands file (i * 32) (r .words)) ≡ sameBytes (recordAt file i) (recordBytes r)
 unfolding recordAt recordBytes
 record-stands r file i b h n small =
@@ -110,7 +120,8 @@ wordsBytes-append [] ws = refl
 wordsBytes-append (v ∷ vs) ws = ap (λ (l : List ℕ). bytesOf 4 v ++ l) (wordsBytes-append vs ws) ∙ simp append-assoc
 
 -- one word more
-pub word-more : (out ws : List ℕ) (at k : ℕ) → k < length ws → putWord (sets out at (wordsBytes (take k ws))) (at + k * 4) (getD ws k 0) ≡ sets out at (wordsBytes (take (suc k) ws))
+pub word-more : (out ws : List ℕ) (at k : ℕ) → k < length ws
+    → putWord (sets out at (wordsBytes (take k ws))) (at + k * 4) (getD ws k 0) ≡ sets out at (wordsBytes (take (suc k) ws))
 unfolding putWord wordsBytes
 word-more out ws at k h =
     let n : length (wordsBytes (take k ws)) ≡ k * 4 = length-wordsBytes (take k ws) ∙ ap (λ (x : ℕ). x * 4) (length-take-le k ws (omega arith)) in
@@ -134,13 +145,16 @@ unfolding recordBytes endRecord endBytes
 end-record-bytes points goal len = refl
 
 -- what a comparison with a record by value says of the record's bytes: for a caller that made the record and asked `is_at`
-pub seed-tested : (bytes : List ℕ) (polygon : ℕ) (start : Point) {r : Record} {b : Bool} → r ≡ seedRecord polygon start → b ≡ sameBytes bytes (recordBytes r) → sameBytes bytes (seedBytes polygon start) ≡ b
+pub seed-tested : (bytes : List ℕ) (polygon : ℕ) (start : Point) {r : Record} {b : Bool} → r ≡ seedRecord polygon start
+    → b ≡ sameBytes bytes (recordBytes r) → sameBytes bytes (seedBytes polygon start) ≡ b
 seed-tested bytes polygon start e f = ap (sameBytes bytes) (sym (seed-record-bytes polygon start) ∙ ap recordBytes (sym e)) ∙ sym f
 
-pub step-tested : (bytes : List ℕ) (s : Step) {r : Record} {b : Bool} → r ≡ stepRecord s → b ≡ sameBytes bytes (recordBytes r) → sameBytes bytes (stepBytes s) ≡ b
+pub step-tested : (bytes : List ℕ) (s : Step) {r : Record} {b : Bool} → r ≡ stepRecord s → b ≡ sameBytes bytes (recordBytes r)
+    → sameBytes bytes (stepBytes s) ≡ b
 step-tested bytes s e f = ap (sameBytes bytes) (sym (step-record-bytes s) ∙ ap recordBytes (sym e)) ∙ sym f
 
-pub end-tested : (bytes : List ℕ) (points : ℕ) (goal : Point) (len : Float) {r : Record} {b : Bool} → r ≡ endRecord points goal len → b ≡ sameBytes bytes (recordBytes r)
+pub end-tested : (bytes : List ℕ) (points : ℕ) (goal : Point) (len : Float) {r : Record} {b : Bool} → r ≡ endRecord points goal len
+    → b ≡ sameBytes bytes (recordBytes r)
     → sameBytes bytes (endBytes points goal len) ≡ b
 end-tested bytes points goal len e f = ap (sameBytes bytes) (sym (end-record-bytes points goal len) ∙ ap recordBytes (sym e)) ∙ sym f
 
@@ -148,17 +162,20 @@ pub put-keeps-length : (file : List ℕ) (i : ℕ) (bytes : List ℕ) → length
 unfolding putRecord
 put-keeps-length file i bytes = length-sets file (i * 32) bytes
 
-pub put-reads-back : (file : List ℕ) (i : ℕ) (bytes : List ℕ) → length bytes ≡ 32 → (i + 1) * 32 ≤ length file → recordAt (putRecord file i bytes) i ≡ bytes
+pub put-reads-back : (file : List ℕ) (i : ℕ) (bytes : List ℕ) → length bytes ≡ 32 → (i + 1) * 32 ≤ length file
+    → recordAt (putRecord file i bytes) i ≡ bytes
 unfolding putRecord recordAt
 put-reads-back file i bytes n h = ap (λ (x : ℕ). take x (drop (i * 32) (sets file (i * 32) bytes))) (sym n) ∙ sets-at bytes file (i * 32) (omega arith)
 
-pub put-leaves-others : (file : List ℕ) (i : ℕ) (bytes : List ℕ) (j : ℕ) → length bytes ≡ 32 → (i < j) ⊎ (j < i) → recordAt (putRecord file i bytes) j ≡ recordAt file j
+pub put-leaves-others : (file : List ℕ) (i : ℕ) (bytes : List ℕ) (j : ℕ) → length bytes ≡ 32 → (i < j) ⊎ (j < i)
+    → recordAt (putRecord file i bytes) j ≡ recordAt file j
 unfolding putRecord recordAt
 put-leaves-others file i bytes j n (inl h) = apart-sets 32 (j * 32) bytes file (i * 32) (inl (omega arith))
 put-leaves-others file i bytes j n (inr h) = apart-sets 32 (j * 32) bytes file (i * 32) (inr (omega arith))
 
 -- "On 0 the search fills exactly the route's bytes; those behind stay."
-pub put-leaves-behind : (file : List ℕ) (i : ℕ) (bytes : List ℕ) (n : ℕ) → length bytes ≡ 32 → (i + 1) * 32 ≤ n → drop n (putRecord file i bytes) ≡ drop n file
+pub put-leaves-behind : (file : List ℕ) (i : ℕ) (bytes : List ℕ) (n : ℕ) → length bytes ≡ 32 → (i + 1) * 32 ≤ n
+    → drop n (putRecord file i bytes) ≡ drop n file
 unfolding putRecord
 put-leaves-behind file i bytes n m h = behind bytes file (i * 32) (omega arith)
   where

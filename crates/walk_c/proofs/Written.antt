@@ -16,13 +16,15 @@ use Rattle.walk_c.specs.declared.Asked.the-variants.{Kind}
 use Rattle.walk_c.specs.Walk.{kindNumber, partsWritten, wordsOf, walkNumber, walkWritten}
 
 -- lists that agree up to k write the same k parts
-same-written : (ps qs : List Part) (before : List ℕ) (k : ℕ) → ((i : ℕ) → i < k → partAt ps i ≡ partAt qs i) → partsWritten ps k before ≡ partsWritten qs k before
+same-written : (ps qs : List Part) (before : List ℕ) (k : ℕ) → ((i : ℕ) → i < k → partAt ps i ≡ partAt qs i)
+    → partsWritten ps k before ≡ partsWritten qs k before
 unfolding partsWritten
 same-written ps qs before zero same = refl
 same-written ps qs before (suc k) same =
     rw (same-written ps qs before k (λ i h. same i (omega arith)), same k (omega arith))
 
-module _ (root : Point) (interval edge : Segment) (kind : SuccessorType) {walked : Walked} (gave : walked ≡ walkedOf (walkEdgeOf root interval edge kind)) where
+module _ (root : Point) (interval edge : Segment) (kind : SuccessorType) {walked : Walked}
+    (gave : walked ≡ walkedOf (walkEdgeOf root interval edge kind)) where
   abbrev walk : Walk
   walk = walkEdgeOf root interval edge kind
 
@@ -37,7 +39,8 @@ module _ (root : Point) (interval edge : Segment) (kind : SuccessorType) {walked
     unfolding walkNumber
     number-of-parts = rw is as-many
 
-    pub written-parts : (before : List ℕ) → set (partsWritten (walked .parts) (walked .count) before) 15 (kindNumber (walked .kind)) ≡ walkWritten root interval edge asked before
+    pub written-parts : (before : List ℕ) → set (partsWritten (walked .parts) (walked .count) before) 15 (kindNumber (walked .kind))
+        ≡ walkWritten root interval edge asked before
     unfolding walkWritten wordsOf
     written-parts before =
         rw (is, gave, ← count-is-their-number root interval edge kind, kind-is-the-walk's root interval edge kind)

@@ -87,7 +87,8 @@ pub extern "C" fn geometry_walk_edge(
     out: &mut [u32; 16],
 ) -> u32
     ensures { λ r. ⌜ r ≡ walkNumber (fromBitsOf rx ry) (segmentOf i0x i0y i1x i1y) (segmentOf ax ay bx by) (kindAskedOf kind) ⌝ }
-    ensures { λ _. ⌜ now (out .exit) ≡ walkWritten (fromBitsOf rx ry) (segmentOf i0x i0y i1x i1y) (segmentOf ax ay bx by) (kindAskedOf kind) (now (out .entry)) ⌝ }
+    ensures { λ _. ⌜ now (out .exit) ≡ walkWritten (fromBitsOf rx ry) (segmentOf i0x i0y i1x i1y) (segmentOf ax ay bx by) (kindAskedOf kind)
+        (now (out .entry)) ⌝ }
 {
     let asked = kind_asked(kind);
     match asked {

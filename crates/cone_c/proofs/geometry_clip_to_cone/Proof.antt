@@ -11,7 +11,8 @@ use Rattle.cone_c.proofs.geometry_clip_to_cone.Statement.{statement}
 use Rattle.cone_c.proofs.geometry_clip_to_cone.Tie as tie
 
 module _ {clipped : Clipped} {number : ℕ} {out : List ℕ} (before : List ℕ) where
-  seen : {s : Segment} → clipped ≡ Seen s → number ≡ 1 → out ≡ segmentBits s → (number ≡ clippedNumber clipped) × (out ≡ clippedWritten clipped before)
+  seen : {s : Segment} → clipped ≡ Seen s → number ≡ 1 → out ≡ segmentBits s
+      → (number ≡ clippedNumber clipped) × (out ≡ clippedWritten clipped before)
   unfolding clippedNumber clippedWritten
   seen e n o = rw e (n, o)
 
@@ -38,4 +39,7 @@ returns-2 c =
     nothing _ (simp (c2 .clip-to-cone .ensures, c3 .segment2 .ensures, c4 .segment .ensures, c5 .from-bits .ensures) at (c .enum-told .given .1)) refl refl
 
 pub geometry-clip-to-cone-spec : {M : Type 1} → statement M
-geometry-clip-to-cone-spec = tie.close (tie.spec (λ c κs. search needs) (λ c κs. search needs) (λ c κs. search needs) (λ c κs. search needs) (λ c. search needs) (λ c κs. search needs) (λ c. search needs) returns returns-2)
+geometry-clip-to-cone-spec =
+    tie.close
+    (tie.spec (λ c κs. search needs) (λ c κs. search needs) (λ c κs. search needs) (λ c κs. search needs) (λ c. search needs)
+    (λ c κs. search needs) (λ c. search needs) returns returns-2)

@@ -12,4 +12,6 @@ returns c =
     simp (c .truth-number .ensures, c1 .lands-on .ensures, c2 .from-bits3 .ensures, c3 .from-bits2 .ensures, c4 .from-bits .ensures)
 
 pub geometry-lands-on-spec : {M : Type 1} → statement M
-geometry-lands-on-spec = tie.close (tie.spec (λ c κs. search needs) (λ c κs. search needs) (λ c κs. search needs) (λ c κs. search needs) (λ c κs. search needs) returns)
+geometry-lands-on-spec =
+    tie.close
+    (tie.spec (λ c κs. search needs) (λ c κs. search needs) (λ c κs. search needs) (λ c κs. search needs) (λ c κs. search needs) returns)

@@ -12,4 +12,6 @@ returns c =
     simp (c .to-bits .ensures, c1 .heuristic .ensures, c2 .segment .ensures, c3 .from-bits2 .ensures, c4 .from-bits .ensures)
 
 pub geometry-heuristic-spec : {M : Type 1} → statement M
-geometry-heuristic-spec = tie.close (tie.spec (λ c κs. search needs) (λ c κs. search needs) (λ c κs. search needs) (λ c κs. search needs) (λ c κs. search needs) returns)
+geometry-heuristic-spec =
+    tie.close
+    (tie.spec (λ c κs. search needs) (λ c κs. search needs) (λ c κs. search needs) (λ c κs. search needs) (λ c κs. search needs) returns)

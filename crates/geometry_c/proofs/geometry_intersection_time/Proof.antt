@@ -11,4 +11,6 @@ returns c =
     simp (c .to-bits .ensures, c1 .intersection-time .ensures, c2 .segment2 .ensures, c3 .segment .ensures)
 
 pub geometry-intersection-time-spec : {M : Type 1} → statement M
-geometry-intersection-time-spec = tie.close (tie.spec (λ c κs. search needs) (λ c κs. search needs) (λ c κs. search needs) (λ c κs. search needs) returns)
+geometry-intersection-time-spec =
+    tie.close
+    (tie.spec (λ c κs. search needs) (λ c κs. search needs) (λ c κs. search needs) (λ c κs. search needs) returns)

@@ -4,10 +4,7 @@ use Rattle.geometry_c.proofs.geometry_length.Statement.{statement}
 use Rattle.geometry_c.proofs.geometry_length.Tie as tie
 
 returns : tie.Need-returns
-returns c =
-    let c1 = c .before in
-    let c2 = c1 .before in
-    simp (c .to-bits .ensures, c1 .length .ensures, c2 .from-bits .ensures)
+returns c = let at-length = c .before in simp (c .to-bits .ensures, at-length .length .ensures, at-length .before .from-bits .ensures)
 
 pub geometry-length-spec : {M : Type 1} → statement M
 geometry-length-spec = tie.close (tie.spec (λ c κs. search needs) (λ c κs. search needs) (λ c κs. search needs) returns)

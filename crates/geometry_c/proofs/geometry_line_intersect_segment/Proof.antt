@@ -1,4 +1,5 @@
--- `geometry_c::geometry_line_intersect_segment` meets its contract: the crossing's number and what is written are those of the arm's case, by what its callees ensure. Assumes nothing.
+-- `geometry_c::geometry_line_intersect_segment` meets its contract: the crossing's number and what is written are those of the arm's case, by what its
+-- callees ensure. Assumes nothing.
 use mathlib.Core.Path.{refl}
 use borrow.Author.Needs.{needs}
 use Rattle.geometry_c.specs.Export.{crossingNumber, crossingWritten}

@@ -4,10 +4,7 @@ use Rattle.geometry_c.proofs.geometry_root.Statement.{statement}
 use Rattle.geometry_c.proofs.geometry_root.Tie as tie
 
 returns : tie.Need-returns
-returns c =
-    let c1 = c .before in
-    let c2 = c1 .before in
-    simp (c .to-bits .ensures, c1 .root .ensures, c2 .from-bits .ensures)
+returns c = let at-root = c .before in simp (c .to-bits .ensures, at-root .root .ensures, at-root .before .from-bits .ensures)
 
 pub geometry-root-spec : {M : Type 1} → statement M
 geometry-root-spec = tie.close (tie.spec (λ c κs. search needs) (λ c κs. search needs) (λ c κs. search needs) returns)

@@ -1,4 +1,5 @@
--- `geometry_c::geometry_turning_point` meets its contract: the turn's number and what is written are those of the arm's case, by what its callees ensure. Assumes nothing.
+-- `geometry_c::geometry_turning_point` meets its contract: the turn's number and what is written are those of the arm's case, by what its callees
+-- ensure. Assumes nothing.
 use mathlib.Core.Path.{refl}
 use borrow.Author.Needs.{needs}
 use Rattle.geometry_c.specs.Export.{turnNumber, turnWritten}
@@ -13,7 +14,8 @@ returns c =
     let c6 = c5 .before in
     let c7 = c6 .before in
     let c8 = c7 .before in
-    rw (← c8 .from-bits .ensures, ← c7 .from-bits2 .ensures, ← c6 .segment .ensures, ← c5 .turning-point .ensures, c3 .turn .given .1) (refl, c .put .ensures)
+    rw (← c8 .from-bits .ensures, ← c7 .from-bits2 .ensures, ← c6 .segment .ensures, ← c5 .turning-point .ensures, c3 .turn .given .1)
+    (refl, c .put .ensures)
 
 returns-2 : tie.Need-returns-2
 unfolding turnNumber turnWritten

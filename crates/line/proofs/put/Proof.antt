@@ -9,8 +9,8 @@ use Rattle.line.proofs.put.Tie as tie
 returns : tie.Need-returns
 returns c =
     let at-copy = c .before .before in
-    let start = at-copy .before .before .before .before in
-    (ap (λ n. start .args .from + n) (at-copy .copy .ensures .0), put-part (start .args .from) _ _ (at-copy .copy .ensures .1))
+    let s = at-copy .before .before .before .before in
+    (ap (λ n. s .args .from + n) (at-copy .copy .ensures .0), put-part (s .args .from) _ _ (at-copy .copy .ensures .1))
 
 pub put-spec : {M : Type 1} → statement M
 put-spec =

@@ -24,12 +24,4 @@ returns-2 c =
 pub put-gap-spec : {M : Type 1} → statement M
 put-gap-spec =
     tie.close
-    (tie.spec
-    (search needs)
-    (search needs)
-    (search needs)
-    returns
-    (search needs)
-    (search needs)
-    (search needs)
-    returns-2)
+    (tie.spec (search needs) (search needs) (search needs) returns (search needs) (search needs) (search needs) returns-2)

@@ -17,10 +17,10 @@ returns-2 c =
     let at-decimal = c .before .before in
     let at-mark = at-decimal .before .before .before .before in
     let arm = at-mark .before .before .before .before in
-    let start = arm .before .before .before in
+    let s = arm .before .before .before in
     let marked = at-mark .put .ensures in
     let counted = at-decimal .put-decimal .ensures in
-    let both = next (start .args .from) _ _ _ (omega arith) (marked .0, marked .1) (counted .0, counted .1 .0) in
+    let both = next (s .args .from) _ _ _ (omega arith) (marked .0, marked .1) (counted .0, counted .1 .0) in
     rw (arm .told .given .1) (both .0, (both .1, omega (arith, marked .0, counted .1 .1)))
 
 returns-3 : tie.Need-returns-3
@@ -30,14 +30,4 @@ returns-3 c = rw (c .enum-told2 .given .1) (omega arith, (put-nothing _ _, omega
 pub put-record-spec : {M : Type 1} → statement M
 put-record-spec =
     tie.close
-    (tie.spec
-    (search needs)
-    (search needs)
-    (search needs)
-    (search needs)
-    (search needs)
-    (search needs)
-    returns
-    (search needs)
-    returns-2
-    returns-3)
+    (tie.spec (search needs) (search needs) (search needs) (search needs) (search needs) (search needs) returns (search needs) returns-2 returns-3)

@@ -11,15 +11,11 @@ returns c = rw (eq-eqb _ _ (c .if1 .taken))
 
 returns-2 : tie.Need-returns-2
 unfolding kindIn
-returns-2 c =
-    let c1 = c .before in
-    rw (ne-eqb _ _ (c1 .if1 .left), eq-eqb _ _ (c .if2 .taken))
+returns-2 c = rw (ne-eqb _ _ (c .before .if1 .left), eq-eqb _ _ (c .if2 .taken))
 
 returns-3 : tie.Need-returns-3
 unfolding kindIn
-returns-3 c =
-    let c1 = c .before in
-    rw (ne-eqb _ _ (c1 .if1 .left), ne-eqb _ _ (c .if2 .left))
+returns-3 c = rw (ne-eqb _ _ (c .before .if1 .left), ne-eqb _ _ (c .if2 .left))
 
 pub kind-in-spec : {M : Type 1} → statement M
 kind-in-spec =

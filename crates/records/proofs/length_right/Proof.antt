@@ -9,15 +9,11 @@ use Rattle.records.proofs.length_right.Tie as tie
 
 returns : tie.Need-returns
 unfolding lengthRight records
-returns c =
-    let c1 = c .before in
-    rw (eq-eqb _ _ (c1 .if1 .taken), le-leb _ _ (c .if2 .taken))
+returns c = rw (eq-eqb _ _ (c .before .if1 .taken), le-leb _ _ (c .if2 .taken))
 
 returns-2 : tie.Need-returns-2
 unfolding lengthRight records
-returns-2 c =
-    let c1 = c .before in
-    rw (eq-eqb _ _ (c1 .if1 .taken), lt-leb _ _ (c .if2 .left))
+returns-2 c = rw (eq-eqb _ _ (c .before .if1 .taken), lt-leb _ _ (c .if2 .left))
 
 returns-3 : tie.Need-returns-3
 unfolding lengthRight records

@@ -9,7 +9,8 @@ use Rattle.says.proofs.route_words.Statement.{statement}
 use Rattle.says.proofs.route_words.Tie as tie
 
 -- any other number
-other : (n : ℕ) → (n ≡ 20 → ⊥) → (n ≡ 21 → ⊥) → (n ≡ 22 → ⊥) → (n ≡ 23 → ⊥) → routeWordsOf n ≡ bytesOf "a number with no meaning"
+other : (n : ℕ) → (n ≡ 20 → ⊥) → (n ≡ 21 → ⊥) → (n ≡ 22 → ⊥) → (n ≡ 23 → ⊥)
+    → routeWordsOf n ≡ bytesOf "a number with no meaning"
 unfolding routeWordsOf
 other n h20 h21 h22 h23 = rw (ne-eqb n 20 h20, ne-eqb n 21 h21, ne-eqb n 22 h22, ne-eqb n 23 h23)
 
@@ -39,19 +40,5 @@ returns-5 c =
 pub route-words-spec : {M : Type 1} → statement M
 route-words-spec =
     tie.close
-    (tie.spec
-    (λ c. search needs)
-    (λ c κs. search needs)
-    (λ c. search needs)
-    (λ c κs. search needs)
-    (λ c. search needs)
-    (λ c κs. search needs)
-    (λ c. search needs)
-    (λ c κs. search needs)
-    (λ c. search needs)
-    (λ c κs. search needs)
-    returns
-    returns-2
-    returns-3
-    returns-4
-    returns-5)
+    (tie.spec (λ c. search needs) (λ c κs. search needs) (λ c. search needs) (λ c κs. search needs) (λ c. search needs) (λ c κs. search needs)
+    (λ c. search needs) (λ c κs. search needs) (λ c. search needs) (λ c κs. search needs) returns returns-2 returns-3 returns-4 returns-5)

@@ -1,4 +1,5 @@
--- `walk_c::geometry_walk_edge` meets its contract: the number of parts and what is written are those of the asked kind's case, by what its callees ensure. Assumes nothing.
+-- `walk_c::geometry_walk_edge` meets its contract: the number of parts and what is written are those of the asked kind's case, by what its callees
+-- ensure. Assumes nothing.
 use mathlib.Core.Path.{refl}
 use native.Mathlib.Omega.{arith}
 use borrow.Author.Needs.{needs}
@@ -23,7 +24,14 @@ returns c =
     let c8 = c7 .before in
     let c10 = c8 .before .before in
     let c12 = c10 .before .before in
-    rw (← c12 .kind-asked .ensures, ← c8 .from-bits .ensures, ← c7 .segment .ensures, ← c6 .segment2 .ensures, c1 .kind-number .ensures, c2 .put-parts .ensures)
+    rw (
+      ← c12 .kind-asked .ensures,
+      ← c8 .from-bits .ensures,
+      ← c7 .segment .ensures,
+      ← c6 .segment2 .ensures,
+      c1 .kind-number .ensures,
+      c2 .put-parts .ensures,
+    )
     (number-of-parts _ _ _ _ (c5 .walk-edge .ensures) (c10 .asked .given .1), written-parts _ _ _ _ (c5 .walk-edge .ensures) (c10 .asked .given .1) _)
 
 returns-2 : tie.Need-returns-2
@@ -33,4 +41,7 @@ returns-2 c =
     rw (← c2 .kind-asked .ensures, c .enum-told .given .1) (refl, refl)
 
 pub geometry-walk-edge-spec : {M : Type 1} → statement M
-geometry-walk-edge-spec = tie.close (tie.spec (λ c κs. search needs) (λ c. search needs) (λ c κs. search needs) (λ c κs. search needs) (λ c κs. search needs) (λ c κs. search needs) put-parts-requires (λ c κs. search needs) (λ c. search needs) cast-result (λ c. search needs) returns returns-2)
+geometry-walk-edge-spec =
+    tie.close
+    (tie.spec (λ c κs. search needs) (λ c. search needs) (λ c κs. search needs) (λ c κs. search needs) (λ c κs. search needs)
+    (λ c κs. search needs) put-parts-requires (λ c κs. search needs) (λ c. search needs) cast-result (λ c. search needs) returns returns-2)

@@ -12,23 +12,19 @@ returns c = taken _ _ (eq-eqb _ _ (c .if1 .taken)) refl
 
 returns-2 : tie.Need-returns-2
 unfolding kindAskedOf
-returns-2 c =
-    let c1 = c .before in
-    left _ _ (ne-eqb _ _ (c1 .if1 .left)) (taken _ _ (eq-eqb _ _ (c .if2 .taken)) refl)
+returns-2 c = left _ _ (ne-eqb _ _ (c .before .if1 .left)) (taken _ _ (eq-eqb _ _ (c .if2 .taken)) refl)
 
 returns-3 : tie.Need-returns-3
 unfolding kindAskedOf
 returns-3 c =
-    let c1 = c .before in
-    let c2 = c1 .before in
-    left _ _ (ne-eqb _ _ (c2 .if1 .left)) (left _ _ (ne-eqb _ _ (c1 .if2 .left)) (taken _ _ (eq-eqb _ _ (c .if3 .taken)) refl))
+    let at-if2 = c .before in
+    left _ _ (ne-eqb _ _ (at-if2 .before .if1 .left)) (left _ _ (ne-eqb _ _ (at-if2 .if2 .left)) (taken _ _ (eq-eqb _ _ (c .if3 .taken)) refl))
 
 returns-4 : tie.Need-returns-4
 unfolding kindAskedOf
 returns-4 c =
-    let c1 = c .before in
-    let c2 = c1 .before in
-    left _ _ (ne-eqb _ _ (c2 .if1 .left)) (left _ _ (ne-eqb _ _ (c1 .if2 .left)) (left _ _ (ne-eqb _ _ (c .if3 .left)) refl))
+    let at-if2 = c .before in
+    left _ _ (ne-eqb _ _ (at-if2 .before .if1 .left)) (left _ _ (ne-eqb _ _ (at-if2 .if2 .left)) (left _ _ (ne-eqb _ _ (c .if3 .left)) refl))
 
 pub kind-asked-spec : {M : Type 1} → statement M
 kind-asked-spec = tie.close (tie.spec returns returns-2 returns-3 returns-4)

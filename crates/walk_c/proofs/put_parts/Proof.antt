@@ -19,29 +19,18 @@ loop-holds : tie.Need-loop-holds Inv-loop μ-loop
 unfolding partsWritten
 loop-holds c = (omega arith, refl)
 
-mul-put-part : tie.Need-mul-put-part Inv-loop μ-loop
-mul-put-part c = omega arith
-
-array-copy-out-put-part : tie.Need-array-copy-out-put-part Inv-loop μ-loop
-array-copy-out-put-part c = omega arith
-
-put-part-requires : tie.Need-put-part-requires Inv-loop μ-loop
-put-part-requires c κs = omega arith
-
-add-i : tie.Need-add-i Inv-loop μ-loop
-add-i c = omega arith
-
-loop-less : tie.Need-loop-less Inv-loop μ-loop
-loop-less c = omega arith
-
 loop-again : tie.Need-loop-again Inv-loop μ-loop
 unfolding partsWritten
 loop-again c = (omega arith, rw (add-one, ← c .before .before .before .before .loop .inv .1) (c .put-part .ensures))
 
 returns : tie.Need-returns Inv-loop μ-loop
 returns c =
-    let all : c .before .loop .i ≡ c .before .before .args .count = omega arith in
-    rw (← all) (c .before .loop .inv .1)
+    let l = c .before in
+    let all : l .loop .i ≡ l .before .args .count = omega arith in
+    rw (← all) (l .loop .inv .1)
 
 pub put-parts-spec : {M : Type 1} → statement M
-put-parts-spec = tie.close (tie.spec Inv-loop μ-loop loop-holds mul-put-part array-copy-out-put-part put-part-requires add-i loop-less loop-again returns)
+put-parts-spec =
+    tie.close
+    (tie.spec Inv-loop μ-loop loop-holds (λ c. omega arith) (λ c. omega arith) (λ c κs. omega arith) (λ c. omega arith) (λ c. omega arith)
+    loop-again returns)

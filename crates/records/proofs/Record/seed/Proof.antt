@@ -6,9 +6,7 @@ use Rattle.records.proofs.Record.seed.Tie as tie
 
 returns : tie.Need-returns
 unfolding seedRecord seedWords
-returns c =
-    let c1 = c .before in
-    rw (← c1 .to-bits .ensures, ← c .to-bits2 .ensures)
+returns c = rw (← c .before .to-bits .ensures, ← c .to-bits2 .ensures)
 
 pub seed-spec : {M : Type 1} → statement M
 seed-spec =

@@ -20,39 +20,18 @@ Inv-loop out₀ i words k₀ out k = (k ≤ 8) × (length out ≡ length out₀)
 abbrev μ-loop : tie.MeasureT-loop
 μ-loop out₀ i words k₀ out k = 8 - k
 
+abbrev start : tie.At-loop Inv-loop μ-loop → tie.Start Inv-loop μ-loop
+start c = c .before .before .before
+
 loop-holds : tie.Need-loop-holds Inv-loop μ-loop
 unfolding wordsBytes
 loop-holds c = (omega arith, refl, refl)
-
-mul-write : tie.Need-mul-write Inv-loop μ-loop
-mul-write c = omega arith
-
-mul-write-2 : tie.Need-mul-write-2 Inv-loop μ-loop
-mul-write-2 c = omega arith
-
-add-write : tie.Need-add-write Inv-loop μ-loop
-add-write c = omega arith
-
-mul-write-3 : tie.Need-mul-write-3 Inv-loop μ-loop
-mul-write-3 c = omega arith
-
-array-read-write : tie.Need-array-read-write Inv-loop μ-loop
-array-read-write c = omega arith
-
-write-requires : tie.Need-write-requires Inv-loop μ-loop
-write-requires c κs = omega arith
-
-add-k : tie.Need-add-k Inv-loop μ-loop
-add-k c = omega arith
-
-loop-less : tie.Need-loop-less Inv-loop μ-loop
-loop-less c = omega arith
 
 loop-again : tie.Need-loop-again Inv-loop μ-loop
 loop-again c =
     let at-write = c .before .before in
     let l = at-write .before .before .before in
-    let s = l .before .before .before in
+    let s = start l in
     let ws = s .args .self .words in
     let at = s .args .i * 32 in
     let n : length ws ≡ 8 = words-length ws (s .good .0 .1 .1 .0 .1 .0 .1) in
@@ -71,7 +50,7 @@ returns : tie.Need-returns Inv-loop μ-loop
 unfolding putRecord recordBytes
 returns c =
     let l = c .before in
-    let s = l .before .before .before in
+    let s = start l in
     let ws = s .args .self .words in
     let n : length ws ≡ 8 = words-length ws (s .good .0 .1 .1 .0 .1 .0 .1) in
     let k : l .loop .k ≡ 8 = omega arith in
@@ -82,18 +61,5 @@ returns c =
 pub write-spec : {M : Type 1} → statement M
 write-spec =
     tie.close
-    (tie.spec
-    Inv-loop
-    μ-loop
-    loop-holds
-    mul-write
-    mul-write-2
-    add-write
-    mul-write-3
-    array-read-write
-    write-requires
-    add-k
-    loop-less
-    loop-again
-    same-length
-    returns)
+    (tie.spec Inv-loop μ-loop loop-holds (λ c. omega arith) (λ c. omega arith) (λ c. omega arith) (λ c. omega arith) (λ c. omega arith)
+    (λ c κs. omega arith) (λ c. omega arith) (λ c. omega arith) loop-again same-length returns)
