@@ -1,4 +1,5 @@
--- The marks are document 01's turn vertices: a set bit at each vertex on a wall edge, and at no other. And marking changes nothing else in a plan. Assumes nothing.
+-- The marks are document 01's turn vertices: a set bit at each vertex on a wall edge, and at no other. And marking changes nothing else in a plan.
+-- Assumes nothing.
 use Prim.Native.Nat.{ℕ, zero, suc, _+_, _*_, _/_, _<_, _≤_}
 use native.Mathlib.Nat.{lt-of-lt-of-le}
 use native.Mathlib.Omega.{arith}
@@ -9,8 +10,10 @@ use lib.Dec.{eqb}
 use lib.ListN.{length}
 use Rattle.counts.specs.Counts.{some}
 use Rattle.plan.specs.Plan.{slotsIn, vertexCountIn, polygonCountIn, isMarked, marked, laid}
-use Rattle.plan.proofs.Laws.{laid-slots, laid-vertices, laid-polygons, laid-length, laid-unmarked, marked-slots, marked-vertices, marked-polygons, marked-length, marked-at}
-use Rattle.stored.specs.Stored.{Polygon, unused, corner, neighbour, cornerCount, cornerAfter, polygonIn, polygonsOf, floorOf, floorIn, VerticesPlanned, PolygonsPlanned}
+use Rattle.plan.proofs.Laws.{laid-slots, laid-vertices, laid-polygons, laid-length, laid-unmarked, marked-slots, marked-vertices, marked-polygons}
+use Rattle.plan.proofs.Laws.{marked-length, marked-at}
+use Rattle.stored.specs.Stored.{Polygon, unused, corner, neighbour, cornerCount, cornerAfter, polygonIn, polygonsOf, floorOf, floorIn, VerticesPlanned}
+use Rattle.stored.specs.Stored.{PolygonsPlanned}
 use Rattle.faults.specs.Accepted.{Accepted}
 use Rattle.edges.specs.Where.{turnsAt, isTurn, markEdge, markEdges, markPolygons, turnsMarked, planOf}
 use Rattle.edges.specs.Ground.{Ground}
@@ -78,7 +81,8 @@ module _ (v : ℕ) where
           ∙ either (eqb (corner q i) v) (eqb (cornerAfter q i) v) (isMarked plan v)
       go false = refl
 
-  edges-marked : (q : Polygon) (n : ℕ) (plan : List ℕ) → Inside plan → isMarked (markEdges q n plan) v ≡ cond (some n (wallAt q v)) true (isMarked plan v)
+  edges-marked : (q : Polygon) (n : ℕ) (plan : List ℕ) → Inside plan
+      → isMarked (markEdges q n plan) v ≡ cond (some n (wallAt q v)) true (isMarked plan v)
   unfolding markEdges some
   edges-marked q zero plan h = refl
   edges-marked q (suc n) plan h =
@@ -126,7 +130,8 @@ module _ (s : ℕ) (vs ps : List ℕ) where
       ∙ itself (some (length polygons) (turnsAt polygons v))
 
   -- the ground that an accepted floor is, by its plan
-  module _ (some-slots : 0 < s) (few-slots : s ≤ 16) (some : 1 ≤ length vs / 8) (few : length vs / 8 ≤ 1024) (few-polygons : length ps / (s * 8) ≤ 512) where
+  module _ (some-slots : 0 < s) (few-slots : s ≤ 16) (some : 1 ≤ length vs / 8) (few : length vs / 8 ≤ 1024)
+      (few-polygons : length ps / (s * 8) ≤ 512) where
     pub ground : Accepted (floorOf s vs ps) → Ground (planOf s vs ps) vs ps
     ground accepted = record {
       vertices-planned = record { counted = plan-vertices; some = some; few = few };

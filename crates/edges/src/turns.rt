@@ -33,7 +33,8 @@ fn mark_edge(polygons: &[u8], plan: &[u32; PLAN], p: usize, i: usize, marks: &mu
 fn mark_edges(polygons: &[u8], plan: &[u32; PLAN], p: usize, marks: &mut [u32; PLAN])
     requires { ⌜ Lies (now plan) (now polygons) p ⌝ }
     requires { ⌜ Corners (vertexCountIn (now plan)) (recordIn (now plan) (now polygons) p) × (vertexCountIn (now plan) ≤ 1024) ⌝ }
-    ensures { λ _. let q = recordIn (now (plan .entry)) (now (polygons .entry)) p in ⌜ now (marks .exit) ≡ markEdges q (cornerCount q) (now (marks .entry)) ⌝ }
+    ensures { λ _. let q = recordIn (now (plan .entry)) (now (polygons .entry)) p in
+        ⌜ now (marks .exit) ≡ markEdges q (cornerCount q) (now (marks .entry)) ⌝ }
 {
     let n = corner_count(polygons, plan, p);
     let mut i = 0;

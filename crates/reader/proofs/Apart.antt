@@ -1,5 +1,5 @@
--- A reader taken apart: what it owns gives what its bytes own, and is kept, since a struct of a `&` and a number can be had twice. Each walk that is handed a reader cites it.
--- What is owned takes `Given`, for the calculus alone. The rest assumes nothing.
+-- A reader taken apart: what it owns gives what its bytes own, and is kept, since a struct of a `&` and a number can be had twice. Each walk that is
+-- handed a reader cites it. What is owned takes `Given`, for the calculus alone. The rest assumes nothing.
 use Prim.Native.Nat.{_<_, _^_}
 use mathlib.Core.Path.{_≡_, refl}
 use mathlib.Core.List.{[], _∷_}
@@ -66,8 +66,10 @@ module _ {M : Type 1} (𝓤 : URA M) (H : Heap 𝓤) (A : Atoms 𝓤) (W : Given
   pub apart : ent 𝓤 (sem 𝓤 H A (Whole κ d)) (sep 𝓤 (sem 𝓤 H A (Bytes κ d)) (sem 𝓤 H A (Whole κ d)))
   apart =
       qed W (‵ (Whole κ d) ∷ []) ∵ use1 W (‵ (Whole κ d) ⊛ ‵ (Whole κ d)) twice $ split ! $
-      use1 W (given (mach d ∷ [] ≡ mach d ∷ []) (‵ (all-own (fields κ .parts) (laws κ) (values κ d)))) (own-open 𝓤 H A W (fields κ) (laws κ) (values κ d) (mach d)) $ learn ! (λ _.
-      use1 W (‵ (ownAt (fields κ .parts) (laws κ) 0 (d .route)) ⊛ ‵ (rest (fields κ .parts) (laws κ) 0 (values κ d))) (own-out 𝓤 H A W (fields κ .parts) (laws κ) 0 (values κ d)) $ split ! $
+      use1 W (given (mach d ∷ [] ≡ mach d ∷ []) (‵ (all-own (fields κ .parts) (laws κ) (values κ d))))
+      (own-open 𝓤 H A W (fields κ) (laws κ) (values κ d) (mach d)) $ learn ! (λ _.
+      use1 W (‵ (ownAt (fields κ .parts) (laws κ) 0 (d .route)) ⊛ ‵ (rest (fields κ .parts) (laws κ) 0 (values κ d)))
+      (own-out 𝓤 H A W (fields κ .parts) (laws κ) 0 (values κ d)) $ split ! $
       -- [what the bytes own; what the number owns; what the reader owns]
       move ! (1 ∷ []) $ drop ! $ frame ! $ done !)
 
@@ -76,6 +78,8 @@ module _ {M : Type 1} (𝓤 : URA M) (H : Heap 𝓤) (A : Atoms 𝓤) (W : Given
       → ent 𝓤 (⋆ 𝓤 H A ((‵ (flft κ q) ⊛ ‵ ftrue) ∷ ‵ (fsep (Whole κ d) beside) ∷ []))
       (sep 𝓤 (⋆ 𝓤 H A ((‵ (flft κ q) ⊛ ‵ ftrue) ∷ ‵ (fsep (Bytes κ d) (fsep (Number d) beside)) ∷ [])) (sem 𝓤 H A (Whole κ d)))
   lends q beside fits =
-      qed W ((‵ (flft κ q) ⊛ ‵ ftrue) ∷ ‵ (fsep (Whole κ d) beside) ∷ []) ∵ move ! (1 ∷ []) $ fsplit ! $ use1 W (‵ (Bytes κ d) ⊛ ‵ (Whole κ d)) apart $ split ! $
+      qed W ((‵ (flft κ q) ⊛ ‵ ftrue) ∷ ‵ (fsep (Whole κ d) beside) ∷ []) ∵ move ! (1 ∷ []) $ fsplit ! $
+      use1 W (‵ (Bytes κ d) ⊛ ‵ (Whole κ d)) apart $ split ! $
       -- [what the bytes own; what the reader owns; what is beside; the token]
-      move ! (2 ∷ []) $ owned ! usize (Is usize) (uint-makes 𝓤 H A W w64) (d .number) _ (refl, fits) $ fjoin ! $ move ! (1 ∷ 0 ∷ []) $ fjoin ! $ move ! (2 ∷ 0 ∷ []) $ join ! $ frame ! $ done !
+      move ! (2 ∷ []) $ owned ! usize (Is usize) (uint-makes 𝓤 H A W w64) (d .number) _ (refl, fits) $ fjoin ! $ move ! (1 ∷ 0 ∷ []) $
+      fjoin ! $ move ! (2 ∷ 0 ∷ []) $ join ! $ frame ! $ done !

@@ -24,7 +24,8 @@ use Rattle.reader.specs.Reading.{isRecord, recordsFrom, numberAfter, pas
 -- ---- behind the last record
 
 -- a file that ends before the last of its 32 bytes has not this record
-pub none-behind : (sought : Record) (file : List ℕ) (i : ℕ) → length (sought .words) ≡ 8 → recordsFrom file i ≡ 0 → isRecord file i sought ≡ false
+pub none-behind : (sought : Record) (file : List ℕ) (i : ℕ) → length (sought .words) ≡ 8 → recordsFrom file i ≡ 0
+    → isRecord file i sought ≡ false
 unfolding isRecord recordAt recordBytes recordsFrom records
 none-behind sought file i eight none =
     other-of _ _
@@ -81,6 +82,7 @@ one-fewer file i = by-test (eqb (recordsFrom file i) 0) refl
 -- ---- the first record of a route
 
 -- a file begins with the seed's record exactly where its first bytes are the seed's
-pub begins-tested : (file : List ℕ) (polygon : ℕ) (start : Point) {r : Record} {b : Bool} → r ≡ seedRecord polygon start → b ≡ isRecord file 0 r → sameBytes (recordAt file 0) (seedBytes polygon start) ≡ b
+pub begins-tested : (file : List ℕ) (polygon : ℕ) (start : Point) {r : Record} {b : Bool} → r ≡ seedRecord polygon start
+    → b ≡ isRecord file 0 r → sameBytes (recordAt file 0) (seedBytes polygon start) ≡ b
 unfolding isRecord
 begins-tested file polygon start e f = seed-tested (recordAt file 0) polygon start e f

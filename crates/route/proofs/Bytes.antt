@@ -1,4 +1,5 @@
--- Every record is 32 bytes; a step's bytes tell the step; no step's bytes are an end's or a seed's. Rests on the laws of words and of bit patterns. Assumes nothing.
+-- Every record is 32 bytes; a step's bytes tell the step; no step's bytes are an end's or a seed's. Rests on the laws of words and of bit patterns.
+-- Assumes nothing.
 use Prim.Native.Nat.{ℕ, _+_, _*_, _^_, _<_}
 use native.Mathlib.Omega.{arith}
 use mathlib.Core.Path.{_≡_, refl, sym, ap, ap₂, _∙_}
@@ -82,7 +83,8 @@ kind-tells k l e = sym (kind-back k) ∙ ap kindOf e ∙ kind-back l
 -- ---- a step's bytes tell the step
 
 point-tells : (p q : Point) → HeldPoint p → HeldPoint q → bits (p .x) ≡ bits (q .x) → bits (p .y) ≡ bits (q .y) → p ≡ q
-point-tells p q h k e f = ap₂ (λ (x y : Float). record { x = x; y = y }) (bits-tell (p .x) (q .x) (h .x-held) (k .x-held) e) (bits-tell (p .y) (q .y) (h .y-held) (k .y-held) f)
+point-tells p q h k e f =
+    ap₂ (λ (x y : Float). record { x = x; y = y }) (bits-tell (p .x) (q .x) (h .x-held) (k .x-held) e) (bits-tell (p .y) (q .y) (h .y-held) (k .y-held) f)
 
 small : (k : SuccessorType) → kindNumber k < 2 ^ 32
 small k = omega (arith, kind-below k)
@@ -102,8 +104,10 @@ step-bytes-tell s t h k e =
     let l : s .interval .1 ≡ t .interval .1 = point-tells _ _ (h .left-held) (k .left-held) (b6 .0) (b7 .0) in
     same (kind-tells _ _ (b0 .0)) (b1 .0) (b2 .0) (b3 .0) r l
   where
-    same : s .kind ≡ t .kind → s .polygon ≡ t .polygon → s .first ≡ t .first → s .second ≡ t .second → s .interval .0 ≡ t .interval .0 → s .interval .1 ≡ t .interval .1 → s ≡ t
-    same a b c d r l = ap₂ (λ (x : SuccessorType) (y : ℕ). record { kind = x; polygon = y; first = s .first; second = s .second; interval = s .interval }) a b
+    same : s .kind ≡ t .kind → s .polygon ≡ t .polygon → s .first ≡ t .first → s .second ≡ t .second → s .interval .0 ≡ t .interval .0
+        → s .interval .1 ≡ t .interval .1 → s ≡ t
+    same a b c d r l =
+        ap₂ (λ (x : SuccessorType) (y : ℕ). record { kind = x; polygon = y; first = s .first; second = s .second; interval = s .interval }) a b
         ∙ ap₂ (λ (x y : ℕ). record { kind = t .kind; polygon = t .polygon; first = x; second = y; interval = s .interval }) c d
         ∙ ap₂ (λ (x y : Point). record { kind = t .kind; polygon = t .polygon; first = t .first; second = t .second; interval = (x, y) }) r l
 

@@ -35,7 +35,12 @@ module _ {Node : Type 0} {w : World Node} (lawful : Lawful w) where
       go : Dec (e < d) → (e < d → Sooner w e bs) → length bs ≡ (d + 1) * 32 → Sooner w e (bs ++ stepBytes s)
       go (yes b) below long =
           let r = below b in
-          record { node = r .node; trail = subst (Trail w e (r .node)) (sym (take-append-le ((e + 1) * 32) bs (stepBytes s) (omega arith))) (r .trail); step = r .step; out = r .out }
+          record {
+            node = r .node;
+            trail = subst (Trail w e (r .node)) (sym (take-append-le ((e + 1) * 32) bs (stepBytes s) (omega arith))) (r .trail);
+            step = r .step;
+            out = r .out;
+          }
       go (no b) below long =
           let k : d ≡ e = omega arith in
           let all : take ((e + 1) * 32) (bs ++ stepBytes s) ≡ bs = take-at bs (stepBytes s) ((e + 1) * 32) (omega arith) in

@@ -1,5 +1,5 @@
--- Document 01's whole example: the three records byte for byte; a world with that one step, which is lawful; and what the judge says of that file there. So a lawful world with
--- a true route exists. Assumes nothing.
+-- Document 01's whole example: the three records byte for byte; a world with that one step, which is lawful; and what the judge says of that file
+-- there. So a lawful world with a true route exists. Assumes nothing.
 use Prim.Native.Nat.{ℕ}
 use mathlib.Core.Path.{_≡_, refl, sym, ap₂, subst}
 use mathlib.Core.Bool.{Bool, true, false}
@@ -32,13 +32,19 @@ unfolding point
 only = record { kind = Observable; polygon = 1; first = 1; second = 4; interval = (point 0x40000000 0, point 0x40000000 0x40000000) }
 
 seed-record : List ℕ
-seed-record = 1 ∷ 0 ∷ 0 ∷ 0 ∷ 0 ∷ 0 ∷ 0 ∷ 0 ∷ 0 ∷ 0 ∷ 0x80 ∷ 0x3F ∷ 0 ∷ 0 ∷ 0x80 ∷ 0x3F ∷ 0 ∷ 0 ∷ 0 ∷ 0 ∷ 0 ∷ 0 ∷ 0 ∷ 0 ∷ 0 ∷ 0 ∷ 0 ∷ 0 ∷ 0 ∷ 0 ∷ 0 ∷ 0 ∷ []
+seed-record =
+    1 ∷ 0 ∷ 0 ∷ 0 ∷ 0 ∷ 0 ∷ 0 ∷ 0 ∷ 0 ∷ 0 ∷ 0x80 ∷ 0x3F ∷ 0 ∷ 0 ∷ 0x80 ∷ 0x3F
+    ∷ 0 ∷ 0 ∷ 0 ∷ 0 ∷ 0 ∷ 0 ∷ 0 ∷ 0 ∷ 0 ∷ 0 ∷ 0 ∷ 0 ∷ 0 ∷ 0 ∷ 0 ∷ 0 ∷ []
 
 step-record : List ℕ
-step-record = 2 ∷ 0 ∷ 0 ∷ 0 ∷ 1 ∷ 0 ∷ 0 ∷ 0 ∷ 1 ∷ 0 ∷ 0 ∷ 0 ∷ 4 ∷ 0 ∷ 0 ∷ 0 ∷ 0 ∷ 0 ∷ 0 ∷ 0x40 ∷ 0 ∷ 0 ∷ 0 ∷ 0 ∷ 0 ∷ 0 ∷ 0 ∷ 0x40 ∷ 0 ∷ 0 ∷ 0 ∷ 0x40 ∷ []
+step-record =
+    2 ∷ 0 ∷ 0 ∷ 0 ∷ 1 ∷ 0 ∷ 0 ∷ 0 ∷ 1 ∷ 0 ∷ 0 ∷ 0 ∷ 4 ∷ 0 ∷ 0 ∷ 0
+    ∷ 0 ∷ 0 ∷ 0 ∷ 0x40 ∷ 0 ∷ 0 ∷ 0 ∷ 0 ∷ 0 ∷ 0 ∷ 0 ∷ 0x40 ∷ 0 ∷ 0 ∷ 0 ∷ 0x40 ∷ []
 
 end-record : List ℕ
-end-record = 5 ∷ 0 ∷ 0 ∷ 0 ∷ 1 ∷ 0 ∷ 0 ∷ 0 ∷ 0 ∷ 0 ∷ 0x40 ∷ 0x40 ∷ 0 ∷ 0 ∷ 0x80 ∷ 0x3F ∷ 0 ∷ 0 ∷ 0 ∷ 0x40 ∷ 0 ∷ 0 ∷ 0 ∷ 0 ∷ 0 ∷ 0 ∷ 0 ∷ 0 ∷ 0 ∷ 0 ∷ 0 ∷ 0 ∷ []
+end-record =
+    5 ∷ 0 ∷ 0 ∷ 0 ∷ 1 ∷ 0 ∷ 0 ∷ 0 ∷ 0 ∷ 0 ∷ 0x40 ∷ 0x40 ∷ 0 ∷ 0 ∷ 0x80 ∷ 0x3F
+    ∷ 0 ∷ 0 ∷ 0 ∷ 0x40 ∷ 0 ∷ 0 ∷ 0 ∷ 0 ∷ 0 ∷ 0 ∷ 0 ∷ 0 ∷ 0 ∷ 0 ∷ 0 ∷ 0 ∷ []
 
 seed-is : seedBytes 0 (point 0x3F800000 0x3F800000) ≡ seed-record
 unfolding seedBytes seedWords wordsBytes bytesOf toBits ofBits point seed-record
@@ -74,7 +80,13 @@ point-held x y = record { x-held = ofBits-fits binary32 x; y-held = ofBits-fits 
 
 only-held : Held only
 unfolding only
-only-held = record { polygon-held = lit< tt; first-held = lit< tt; second-held = lit< tt; right-held = point-held 0x40000000 0; left-held = point-held 0x40000000 0x40000000 }
+only-held = record {
+  polygon-held = lit< tt;
+  first-held = lit< tt;
+  second-held = lit< tt;
+  right-held = point-held 0x40000000 0;
+  left-held = point-held 0x40000000 0x40000000;
+}
 
 small-is-lawful : Lawful small
 unfolding small stepsOut
@@ -123,5 +135,6 @@ others :
     × (judgeOf small (seed-record ++ step-record) ≡ NotEnd 1)
     × (judgeOf small (seed-record ++ step-record ++ seed-record) ≡ NotEnd 2)
     × (judgedTold (NotEnd 2) ≡ AtRecord 23 2)
-unfolding judgeOf judgeFrom judgeEnd judgedTold lengthRight records recordAt sameBytes findStep onwards small stepsOut only point seed-record step-record end-record seedBytes seedWords stepBytes stepWords endBytes endWords wordsBytes bytesOf kindNumber toBits ofBits
+unfolding judgeOf judgeFrom judgeEnd judgedTold lengthRight records recordAt sameBytes findStep onwards small stepsOut only point seed-record
+    step-record end-record seedBytes seedWords stepBytes stepWords endBytes endWords wordsBytes bytesOf kindNumber toBits ofBits
 others = (refl, refl, refl, refl, refl, refl)

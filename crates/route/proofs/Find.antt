@@ -1,4 +1,5 @@
--- Two lists of bytes are the same when the test says so, and the step that is sought by its bytes is found exactly where it is one of the steps. Assumes nothing.
+-- Two lists of bytes are the same when the test says so, and the step that is sought by its bytes is found exactly where it is one of the steps.
+-- Assumes nothing.
 use Prim.Native.Nat.{ℕ}
 use native.Mathlib.Omega.{arith}
 use mathlib.Core.Path.{_≡_, refl, sym, ap, ap₂, _∙_, subst}
@@ -102,7 +103,8 @@ find-none [] bytes h = refl
 find-none (t ∷ steps) bytes h = rw (other-of bytes (stepBytes t) (h t (List·Memᴰ·head refl))) (find-none steps bytes (λ s m. h s (List·Memᴰ·tail m)))
 
 -- of steps that records hold, the one with these bytes is found: no other has them
-pub find-is : (steps : List Step) (bytes : List ℕ) (s : Step) → ((t : Step) → t ∈ steps → Held t) → s ∈ steps → bytes ≡ stepBytes s → findStep steps bytes ≡ Found s
+pub find-is : (steps : List Step) (bytes : List ℕ) (s : Step) → ((t : Step) → t ∈ steps → Held t) → s ∈ steps → bytes ≡ stepBytes s
+    → findStep steps bytes ≡ Found s
 find-is steps bytes s held m e = go (findStep steps bytes) refl
   where
     go : (f : Sought) → findStep steps bytes ≡ f → f ≡ Found s

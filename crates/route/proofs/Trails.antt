@@ -1,4 +1,5 @@
--- Trails and the bytes of a file: how long a trail's bytes are, that they tell its node, and that the judge follows a trail record by record. Rests on what a step's bytes tell. Assumes nothing.
+-- Trails and the bytes of a file: how long a trail's bytes are, that they tell its node, and that the judge follows a trail record by record. Rests on
+-- what a step's bytes tell. Assumes nothing.
 use Prim.Native.Nat.{ℕ, suc, _+_, _*_, _≤_}
 use native.Mathlib.Omega.{arith}
 use mathlib.Core.Path.{_≡_, refl, sym, ap, ap₂, _∙_}
@@ -22,7 +23,8 @@ same-parts n a b c d h k e = (
 )
 
 -- what the first n and 32 bytes are, told apart
-pub cut-record : (n : ℕ) (file bs rec : List ℕ) → length bs ≡ n → take (n + 32) file ≡ bs ++ rec → (take n file ≡ bs) × (take 32 (drop n file) ≡ rec)
+pub cut-record : (n : ℕ) (file bs rec : List ℕ) → length bs ≡ n → take (n + 32) file ≡ bs ++ rec
+    → (take n file ≡ bs) × (take 32 (drop n file) ≡ rec)
 cut-record n file bs rec h e =
     let l : length (take (n + 32) file) ≡ length bs + length rec = ap length e ∙ length-append bs rec in
     let inside : n ≤ length file = omega (arith, length-take (n + 32) file) in
@@ -35,11 +37,13 @@ next : (d : ℕ) → (d + 1 + 1) * 32 ≡ (d + 1) * 32 + 32
 next d = omega arith
 
 -- the same with records: the first d + 2 of them, and record d + 1
-pub cut-next : (d : ℕ) (file bs rec : List ℕ) → length bs ≡ (d + 1) * 32 → take ((d + 1 + 1) * 32) file ≡ bs ++ rec → (take ((d + 1) * 32) file ≡ bs) × (recordAt file (d + 1) ≡ rec)
+pub cut-next : (d : ℕ) (file bs rec : List ℕ) → length bs ≡ (d + 1) * 32 → take ((d + 1 + 1) * 32) file ≡ bs ++ rec
+    → (take ((d + 1) * 32) file ≡ bs) × (recordAt file (d + 1) ≡ rec)
 unfolding recordAt
 cut-next d file bs rec h e = cut-record ((d + 1) * 32) file bs rec h (ap (λ (x : ℕ). take x file) (sym (next d)) ∙ e)
 
-pub join-next : (d : ℕ) (file bs rec : List ℕ) → take ((d + 1) * 32) file ≡ bs → recordAt file (d + 1) ≡ rec → take ((d + 1 + 1) * 32) file ≡ bs ++ rec
+pub join-next : (d : ℕ) (file bs rec : List ℕ) → take ((d + 1) * 32) file ≡ bs → recordAt file (d + 1) ≡ rec
+    → take ((d + 1 + 1) * 32) file ≡ bs ++ rec
 unfolding recordAt
 join-next d file bs rec h k = ap (λ (x : ℕ). take x file) (next d) ∙ join-record ((d + 1) * 32) file bs rec h k
 
@@ -66,7 +70,8 @@ module _ {Node : Type 0} {w : World Node} (lawful : Lawful w) where
   trail-is-one (stepped {d = d} {bytes = bs} {s = s} t p) seeded k =
       absurd (omega (arith, lawful .seed-long, ap length k, length-append bs (stepBytes s), trail-long t, step-is-32 s))
   trail-is-one (stepped {d = d} {n = n} {bytes = bs} {s = s} t p) (stepped {d = e} {n = m} {bytes = cs} {s = r} u q) k =
-      let long : length bs ≡ length cs = omega (arith, ap length k, length-append bs (stepBytes s), length-append cs (stepBytes r), step-is-32 s, step-is-32 r) in
+      let long : length bs ≡ length cs =
+      omega (arith, ap length k, length-append bs (stepBytes s), length-append cs (stepBytes r), step-is-32 s, step-is-32 r) in
       let parts = same-parts (length cs) bs (stepBytes s) cs (stepBytes r) long refl k in
       let below = trail-is-one t u (parts .0) in
       let same : s ≡ r = step-bytes-tell s r (lawful .steps-held n s p) (lawful .steps-held m r q) (parts .1) in
@@ -74,7 +79,8 @@ module _ {Node : Type 0} {w : World Node} (lawful : Lawful w) where
 
   -- ---- a file that begins with a trail
 
-  pub trail-begins : {d : ℕ} {n : Node} {bs : List ℕ} → Trail w d n bs → (file : List ℕ) → take ((d + 1) * 32) file ≡ bs → recordAt file 0 ≡ w .seedBytes
+  pub trail-begins : {d : ℕ} {n : Node} {bs : List ℕ} → Trail w d n bs → (file : List ℕ) → take ((d + 1) * 32) file ≡ bs
+      → recordAt file 0 ≡ w .seedBytes
   unfolding recordAt
   trail-begins seeded file e = e
   trail-begins (stepped {d = d} {bytes = bs} {s = s} t m) file e = trail-begins t file (cut-next d file bs (stepBytes s) (trail-long t) e .0)

@@ -16,7 +16,8 @@ use Rattle.route.specs.Record.{recordAt, records}
 use Rattle.route.specs.Judge.{sameBytes, lengthRight, findStep, onwards, judgeEnd, judgeFrom, judgeOf}
 
 -- a right length is whole records, of which the first and the last are two
-pub length-gives : (file : List ℕ) → lengthRight file ≡ true → (2 ≤ length file / 32) × (length file / 32 ≤ 4097) × (length file ≡ length file / 32 * 32)
+pub length-gives : (file : List ℕ) → lengthRight file ≡ true
+    → (2 ≤ length file / 32) × (length file / 32 ≤ 4097) × (length file ≡ length file / 32 * 32)
 unfolding lengthRight records
 length-gives file h =
     let a = and-true (eqb (length file % 32) 0) (leb 2 (length file / 32) && leb (length file / 32) 4097) h in
@@ -35,7 +36,8 @@ module _ {Node : Type 0} (w : World Node) (file : List ℕ) where
   unfolding judgeOf
   begins-wrong h k = rw (h, k)
 
-  pub begins : lengthRight file ≡ true → sameBytes (recordAt file 0) (w .seedBytes) ≡ true → (last : ℕ) → length file / 32 ≡ last + 1 → judgeOf w file ≡ judgeFrom w file (w .seed) 1 (last - 1)
+  pub begins : lengthRight file ≡ true → sameBytes (recordAt file 0) (w .seedBytes) ≡ true → (last : ℕ) → length file / 32 ≡ last + 1
+      → judgeOf w file ≡ judgeFrom w file (w .seed) 1 (last - 1)
   unfolding judgeOf records
   begins h k last e = let n : length file / 32 - 2 ≡ last - 1 = omega arith in rw (h, k, n)
 
@@ -53,9 +55,11 @@ module _ {Node : Type 0} (w : World Node) (file : List ℕ) where
   -- the same with the last record's number in place of what is left
   pub goes-on-to : (node : Node) (i last : ℕ) (s : Step) → i < last → findStep (w .stepsFrom node) (recordAt file i) ≡ Found s
       → judgeFrom w file node i (last - i) ≡ judgeFrom w file (w .enter node s) (i + 1) (last - (i + 1))
-  goes-on-to node i last s h e = let n : last - i ≡ suc (last - (i + 1)) = omega arith in ap (judgeFrom w file node i) n ∙ goes-on node i (last - (i + 1)) s e
+  goes-on-to node i last s h e =
+      let n : last - i ≡ suc (last - (i + 1)) = omega arith in ap (judgeFrom w file node i) n ∙ goes-on node i (last - (i + 1)) s e
 
-  pub stops-at : (node : Node) (i last : ℕ) → i < last → findStep (w .stepsFrom node) (recordAt file i) ≡ Missing → judgeFrom w file node i (last - i) ≡ NotStep i
+  pub stops-at : (node : Node) (i last : ℕ) → i < last → findStep (w .stepsFrom node) (recordAt file i) ≡ Missing
+      → judgeFrom w file node i (last - i) ≡ NotStep i
   stops-at node i last h e = let n : last - i ≡ suc (last - (i + 1)) = omega arith in ap (judgeFrom w file node i) n ∙ stops node i (last - (i + 1)) e
 
   -- ---- the last record
@@ -67,7 +71,8 @@ module _ {Node : Type 0} (w : World Node) (file : List ℕ) where
   pub ends-at : (node : Node) (i last : ℕ) → last ≤ i → judgeFrom w file node i (last - i) ≡ judgeEnd w file node i
   ends-at node i last h = let n : last - i ≡ 0 = omega arith in ap (judgeFrom w file node i) n ∙ ends node i
 
-  pub end-accepted : (node : Node) (i : ℕ) → w .inGoal node ≡ true → sameBytes (recordAt file i) (w .endBytes node) ≡ true → judgeEnd w file node i ≡ Accepted
+  pub end-accepted : (node : Node) (i : ℕ) → w .inGoal node ≡ true → sameBytes (recordAt file i) (w .endBytes node) ≡ true
+      → judgeEnd w file node i ≡ Accepted
   unfolding judgeEnd
   end-accepted node i g e = simp (g, e)
 
@@ -75,6 +80,7 @@ module _ {Node : Type 0} (w : World Node) (file : List ℕ) where
   unfolding judgeEnd
   end-outside node i g = simp g
 
-  pub end-wrong : (node : Node) (i : ℕ) → w .inGoal node ≡ true → sameBytes (recordAt file i) (w .endBytes node) ≡ false → judgeEnd w file node i ≡ NotEnd i
+  pub end-wrong : (node : Node) (i : ℕ) → w .inGoal node ≡ true → sameBytes (recordAt file i) (w .endBytes node) ≡ false
+      → judgeEnd w file node i ≡ NotEnd i
   unfolding judgeEnd
   end-wrong node i g e = simp (g, e)

@@ -1,4 +1,5 @@
--- "Each number is given exactly in its case", over any lawful world: the judge accepts exactly the true routes, and gives 20, 21, 22 and 23 with their records exactly in their cases. Assumes nothing.
+-- "Each number is given exactly in its case", over any lawful world: the judge accepts exactly the true routes, and gives 20, 21, 22 and 23 with their
+-- records exactly in their cases. Assumes nothing.
 use Prim.Native.Nat.{ℕ, zero, suc, _+_, _-_, _*_, _/_, _%_, _≤_}
 use native.Mathlib.Omega.{arith}
 use mathlib.Core.Path.{_≡_, refl, sym, ap, _∙_, subst}
@@ -47,16 +48,19 @@ module _ {Node : Type 0} {w : World Node} (lawful : Lawful w) (file : List ℕ) 
   leads : {d : ℕ} {n : Node} {bs : List ℕ} → Trail w d n bs → take ((d + 1) * 32) file ≡ bs → LeadsTo w file (d + 1) n
   leads {d} {n} t e = record { steps = d; count = refl; trail = subst (Trail w d n) (sym e) t }
 
-  whole-file : (d : ℕ) (bs rec : List ℕ) (long : RouteLength file) → long .records ≡ d + 2 → take ((d + 1) * 32) file ≡ bs → recordAt file (d + 1) ≡ rec → file ≡ bs ++ rec
+  whole-file : (d : ℕ) (bs rec : List ℕ) (long : RouteLength file) → long .records ≡ d + 2 → take ((d + 1) * 32) file ≡ bs
+      → recordAt file (d + 1) ≡ rec → file ≡ bs ++ rec
   whole-file d bs rec long c e k =
       let all : length file ≤ (d + 1 + 1) * 32 = omega (arith, long .whole) in
       sym (take-all ((d + 1 + 1) * 32) file all) ∙ join-next d file bs rec e k
 
-  end-told : {d : ℕ} {n : Node} {bs : List ℕ} → Trail w d n bs → take ((d + 1) * 32) file ≡ bs → (long : RouteLength file) → long .records ≡ d + 2 → Case w file (judgeEnd w file n (d + 1))
+  end-told : {d : ℕ} {n : Node} {bs : List ℕ} → Trail w d n bs → take ((d + 1) * 32) file ≡ bs → (long : RouteLength file)
+      → long .records ≡ d + 2 → Case w file (judgeEnd w file n (d + 1))
   unfolding judgeEnd
   end-told {d} {n} {bs} t e long c = go (w .inGoal n) refl (sameBytes (recordAt file (d + 1)) (w .endBytes n)) refl
     where
-      go : (g : Bool) → w .inGoal n ≡ g → (b : Bool) → sameBytes (recordAt file (d + 1)) (w .endBytes n) ≡ b → Case w file (cond (g && b) Accepted (NotEnd (d + 1)))
+      go : (g : Bool) → w .inGoal n ≡ g → (b : Bool) → sameBytes (recordAt file (d + 1)) (w .endBytes n) ≡ b
+          → Case w file (cond (g && b) Accepted (NotEnd (d + 1)))
       go true g true b = record {
         steps = d;
         few = omega (arith, long .most);
@@ -66,20 +70,30 @@ module _ {Node : Type 0} {w : World Node} (lawful : Lawful w) (file : List ℕ) 
         arrived = g;
         whole = whole-file d bs (w .endBytes n) long c e (same-true (recordAt file (d + 1)) (w .endBytes n) b);
       }
-      go true g false b = record { long = long; last = omega arith; node = n; before = leads t e; wrong = inr (same-false (recordAt file (d + 1)) (w .endBytes n) b) }
+      go true g false b = record {
+        long = long;
+        last = omega arith;
+        node = n;
+        before = leads t e;
+        wrong = inr (same-false (recordAt file (d + 1)) (w .endBytes n) b);
+      }
       go false g b h = record { long = long; last = omega arith; node = n; before = leads t e; wrong = inl g }
 
-  from-told : (left : ℕ) {d : ℕ} {n : Node} {bs : List ℕ} → Trail w d n bs → take ((d + 1) * 32) file ≡ bs → (long : RouteLength file) → long .records ≡ d + left + 2
+  from-told : (left : ℕ) {d : ℕ} {n : Node} {bs : List ℕ} → Trail w d n bs → take ((d + 1) * 32) file ≡ bs → (long : RouteLength file)
+      → long .records ≡ d + left + 2
       → Case w file (judgeFrom w file n (d + 1) left)
   from-told zero {d} {n} t e long c = subst (Case w file) (sym (ends w file n (d + 1))) (end-told t e long (omega arith))
-  from-told (suc left) {d} {n} {bs} t e long c = go (findStep (w .stepsFrom n) (recordAt file (d + 1))) refl (λ m cs u k. from-told left u k long (omega arith))
+  from-told (suc left) {d} {n} {bs} t e long c =
+      go (findStep (w .stepsFrom n) (recordAt file (d + 1))) refl (λ m cs u k. from-told left u k long (omega arith))
     where
       go : (f : Sought) → findStep (w .stepsFrom n) (recordAt file (d + 1)) ≡ f
-          → ((m : Node) (cs : List ℕ) → Trail w (d + 1) m cs → take ((d + 1 + 1) * 32) file ≡ cs → Case w file (judgeFrom w file m (d + 1 + 1) left))
+          → ((m : Node) (cs : List ℕ) → Trail w (d + 1) m cs → take ((d + 1 + 1) * 32) file ≡ cs
+          → Case w file (judgeFrom w file m (d + 1 + 1) left))
           → Case w file (judgeFrom w file n (d + 1) (suc left))
       go (Found s) f below =
           let p = find-found (w .stepsFrom n) (recordAt file (d + 1)) s f in
-          subst (Case w file) (sym (goes-on w file n (d + 1) left s f)) (below (w .enter n s) (bs ++ stepBytes s) (stepped t (p .0)) (join-next d file bs (stepBytes s) e (p .1)))
+          subst (Case w file) (sym (goes-on w file n (d + 1) left s f))
+          (below (w .enter n s) (bs ++ stepBytes s) (stepped t (p .0)) (join-next d file bs (stepBytes s) e (p .1)))
       go Missing f below =
           subst (Case w file) (sym (stops w file n (d + 1) left f))
           (record { long = long; middle = omega arith; node = n; before = leads t e; wrong = find-missing (w .stepsFrom n) (recordAt file (d + 1)) f })
@@ -93,7 +107,8 @@ module _ {Node : Type 0} {w : World Node} (lawful : Lawful w) (file : List ℕ) 
     where
       go : (a : Bool) → lengthRight file ≡ a → (b : Bool) → sameBytes (recordAt file 0) (w .seedBytes) ≡ b → Case w file (judgeOf w file)
       go false a b h = subst (Case w file) (sym (begins-length w file a)) (λ r. untrue (sym a ∙ length-right file r))
-      go true a false b = subst (Case w file) (sym (begins-wrong w file a b)) (record { long = length-told file a; wrong = same-false (recordAt file 0) (w .seedBytes) b })
+      go true a false b =
+          subst (Case w file) (sym (begins-wrong w file a b)) (record { long = length-told file a; wrong = same-false (recordAt file 0) (w .seedBytes) b })
       go true a true b =
           let long = length-told file a in
           let n : length file / 32 ≡ long .records = records-are file long in
@@ -102,7 +117,8 @@ module _ {Node : Type 0} {w : World Node} (lawful : Lawful w) (file : List ℕ) 
 
   -- ---- what holds the judge says
 
-  pub judge-reaches : {d : ℕ} {n : Node} {bs : List ℕ} → Trail w d n bs → take ((d + 1) * 32) file ≡ bs → (long : RouteLength file) (left : ℕ) → long .records ≡ d + left + 2
+  pub judge-reaches : {d : ℕ} {n : Node} {bs : List ℕ} → Trail w d n bs → take ((d + 1) * 32) file ≡ bs
+      → (long : RouteLength file) (left : ℕ) → long .records ≡ d + left + 2
       → judgeOf w file ≡ judgeFrom w file n (d + 1) left
   judge-reaches {d} t e long left c =
       let n : length file / 32 ≡ long .records = records-are file long in
@@ -114,7 +130,8 @@ module _ {Node : Type 0} {w : World Node} (lawful : Lawful w) (file : List ℕ) 
   pub judge-says : (v : Judged) → Case w file v → judgeOf w file ≡ v
   judge-says Accepted r =
       let long : length file ≡ 32 * (r .steps + 2) = route-long lawful r in
-      let parts = cut-next (r .steps) file (r .bytes) (w .endBytes (r .last)) (trail-long lawful (r .trail)) (take-all ((r .steps + 1 + 1) * 32) file (omega arith) ∙ r .whole) in
+      let parts = cut-next (r .steps) file (r .bytes) (w .endBytes (r .last)) (trail-long lawful (r .trail))
+      (take-all ((r .steps + 1 + 1) * 32) file (omega arith) ∙ r .whole) in
       judge-reaches (r .trail) (parts .0) (record { records = r .steps + 2; least = omega arith; most = omega (arith, r .few); whole = long }) 0 (omega arith)
       ∙ ends w file (r .last) (r .steps + 1)
       ∙ end-accepted w file (r .last) (r .steps + 1) (r .arrived) (same-of (recordAt file (r .steps + 1)) (w .endBytes (r .last)) (parts .1))
@@ -125,7 +142,8 @@ module _ {Node : Type 0} {w : World Node} (lawful : Lawful w) (file : List ℕ) 
       let e : take ((t .steps + 1) * 32) file ≡ take (k * 32) file = ap (λ (x : ℕ). take (x * 32) file) (sym (t .count)) in
       let f : recordAt file (t .steps + 1) ≡ recordAt file k = ap (recordAt file) (sym (t .count)) in
       judge-reaches (t .trail) e (r .long) (suc (r .long .records - (k + 2))) (omega (arith, t .count, r .middle))
-      ∙ stops w file (r .node) (t .steps + 1) (r .long .records - (k + 2)) (find-none (w .stepsFrom (r .node)) (recordAt file (t .steps + 1)) (λ s m g. r .wrong s m (sym f ∙ g)))
+      ∙ stops w file (r .node) (t .steps + 1) (r .long .records - (k + 2))
+      (find-none (w .stepsFrom (r .node)) (recordAt file (t .steps + 1)) (λ s m g. r .wrong s m (sym f ∙ g)))
       ∙ ap NotStep (sym (t .count))
   judge-says (NotEnd k) r =
       let t = r .before in

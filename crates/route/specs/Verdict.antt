@@ -1,5 +1,5 @@
--- Document 01, "Each number is given exactly in its case": what each of the judge's verdicts says of a file, in words of trails and of the records' bytes, over any world.
--- Definitions only. Assumes nothing.
+-- Document 01, "Each number is given exactly in its case": what each of the judge's verdicts says of a file, in words of trails and of the records'
+-- bytes, over any world. Definitions only. Assumes nothing.
 use Prim.Native.Nat.{ℕ, _+_, _*_, _≤_, _<_}
 use mathlib.Core.Path.{_≡_}
 use mathlib.Core.Bool.{false}

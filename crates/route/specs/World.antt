@@ -1,5 +1,5 @@
--- A world is what a floor and a question give to search and judge: where a route begins, which steps lead out of a node and where to, and which nodes lie in the goal polygon.
--- Over any world stands here what a true route is, grown at its end. Rests on the bytes of a step. Assumes nothing.
+-- A world is what a floor and a question give to search and judge: where a route begins, which steps lead out of a node and where to, and which nodes
+-- lie in the goal polygon. Over any world stands here what a true route is, grown at its end. Rests on the bytes of a step. Assumes nothing.
 use Prim.Native.Nat.{ℕ, _+_, _≤_}
 use mathlib.Core.Path.{_≡_}
 use mathlib.Core.Bool.{Bool, true}
@@ -42,7 +42,8 @@ pub record Lawful {Node : Type 0} (w : World Node) : Type 0 where
 -- A seed and permitted steps, each out of the node that the one before it led to: how many steps, which node they lead to, and the records' bytes.
 pub data Trail {Node : Type 0} (w : World Node) : ℕ → Node → List ℕ → Type 0 where
   seeded : Trail w 0 (w .seed) (w .seedBytes)
-  stepped : {d : ℕ} {n : Node} {bytes : List ℕ} {s : Step} → Trail w d n bytes → s ∈ w .stepsFrom n → Trail w (d + 1) (w .enter n s) (bytes ++ stepBytes s)
+  stepped : {d : ℕ} {n : Node} {bytes : List ℕ} {s : Step} → Trail w d n bytes → s ∈ w .stepsFrom n
+      → Trail w (d + 1) (w .enter n s) (bytes ++ stepBytes s)
 
 -- A true route: a seed, permitted steps into the goal polygon, and the end. 20 names "32 × (2 to 4,097) bytes", so there are at most 4,095 steps.
 pub record TrueRoute {Node : Type 0} (w : World Node) (file : List ℕ) : Type 0 where
