@@ -8,8 +8,7 @@ use lib.Dec.{eqb}
 use Rattle.floor.specs.declared.Look.{Look}
 use Rattle.floor.specs.declared.Look.the-variants.{Inside, Refused}
 use Rattle.floor.specs.Look.{lookOf}
-use Rattle.stored.specs.Stored.{Floor, Question, floorOf, questionOf}
-use Rattle.point.specs.declared.Point.{Point}
+use Rattle.stored.specs.Stored.{Floor, floorOf, questionOf}
 use Rattle.queue.specs.Queue.{none}
 use Rattle.machine.specs.declared.Task.{Task}
 use Rattle.machine.specs.declared.Finish.the-variants.{Emptied, Filled, Stopped}
@@ -20,8 +19,12 @@ use Rattle.machine.specs.Search.{State, Ending, ending, step, onwards, run, sea
 use Rattle.writing.specs.declared.Answer.the-variants.{Spent, NoPlaces}
 use Rattle.writing.specs.Delivered.{written, straightBytes, delivered}
 use Rattle.search.specs.Whole.{Searched, searchedOf, ifInside, withWork, routed, betweenOf, searchOf}
+use Rattle.steps.specs.declared.Node.{Node}
+use Rattle.steps.specs.declared.Trip.{Trip}
 use Rattle.steps.specs.Steps.{stepsFrom, seedNode}
+use Rattle.steps.specs.World.{tripOf}
 use Rattle.promises.specs.Promises.{LargerBudgetSame}
+use Rattle.promises.proofs.Ends.{taskFor, endFor}
 
 -- ---- a run that the budget did not stop
 
@@ -52,56 +55,61 @@ module _ (f : Floor) (t : Task) where
       go (Ends finish) u h next = refl
 
   -- the same of a whole search
-  pub search-longer : (start : Point) (p budget more : ℕ) (w : Work) → (searchedFrom f t start p budget w .finish ≡ Stopped → ⊥) → searchedFrom f t start p (budget + more) w ≡ searchedFrom f t start p budget w
+  pub search-longer : (budget more : ℕ) (w : Work) → (searchedFrom f t budget w .finish ≡ Stopped → ⊥) → searchedFrom f t (budget + more) w ≡ searchedFrom f t budget w
   unfolding searchedFrom
-  search-longer start p budget more w h = go (m .full) h
+  search-longer budget more w h = go (m .full) h
     where
+      seed : Node
+      seed = seedNode (t .trip .start) (t .trip .from)
+
       m : Making
-      m = madeAll f t (begun f t (seedNode start p) w) (seedOrigin f t (seedNode start p)) (stepsFrom f (t .polygon) (seedNode start p))
+      m = madeAll f t (begun f t seed w) (seedOrigin f t seed) (stepsFrom f (t .trip .to) seed)
 
       go : (b : Bool) → (cond {A = Ending} b (ending (m .state) Filled) (run f t budget (m .state)) .finish ≡ Stopped → ⊥)
-          → cond {A = Ending} b (ending (m .state) Filled) (run f t (budget + more) (m .state)) ≡ cond {A = Ending} b (ending (m .state) Filled) (run f t budget (m .state))
+          → cond {A = Ending} b (ending (m .state) Filled) (run f t (budget + more) (m .state))
+          ≡ cond {A = Ending} b (ending (m .state) Filled) (run f t budget (m .state))
       go true h = refl
       go false h = run-longer budget more (m .state) h
 
 -- ---- what is told of it
 
 -- the search was stopped just where it answers 12
-module _ (s : ℕ) (f : Floor) (q : Question) (from to : ℕ) (w : Work) (out : List ℕ) where
-  abbrev task : Task
-  task = record { slots = s; goal = q .goal; polygon = to; places = placesIn w }
-
-  told-stopped : (e : Ending) → e .finish ≡ Stopped → delivered (q .start) from (q .goal) e out .answer ≡ Spent (e .state .counts .pops)
+module _ (f : Floor) (trip : Trip) (w : Work) (out : List ℕ) where
+  told-stopped : (e : Ending) → e .finish ≡ Stopped → delivered trip e out .answer ≡ Spent (e .state .counts .pops)
   unfolding delivered
   told-stopped e h = rw h
 
-  pub between-longer : (budget more : ℕ) → ((steps : ℕ) → betweenOf s f q from to budget w out .answer ≡ Spent steps → ⊥) → betweenOf s f q from to (budget + more) w out ≡ betweenOf s f q from to budget w out
+  pub between-longer : (budget more : ℕ) → ((steps : ℕ) → betweenOf f trip budget w out .answer ≡ Spent steps → ⊥)
+      → betweenOf f trip (budget + more) w out ≡ betweenOf f trip budget w out
   unfolding betweenOf routed
-  between-longer budget more h = go (eqb (placesIn w) 0) (eqb from to) h
+  between-longer budget more h = go (eqb (placesIn w) 0) (eqb (trip .from) (trip .to)) h
     where
       e : Ending
-      e = searchedFrom f task (q .start) from budget w
+      e = endFor f trip budget w
 
       l : Ending
-      l = searchedFrom f task (q .start) from (budget + more) w
+      l = endFor f trip (budget + more) w
 
-      straight : Searched
-      straight = withWork w (written (straightBytes (q .start) from (q .goal)) 0 out)
+      -- by whether there are no places, and whether both ends are in one polygon
+      by : Bool → Bool → Ending → Searched
+      by a b x =
+          cond {A = Searched} a (searchedOf NoPlaces w out)
+          (cond {A = Searched} b (withWork w (written (straightBytes trip) 0 out)) (withWork (x .state .work) (delivered trip x out)))
 
-      go : (a b : Bool) → ((steps : ℕ) → cond {A = Searched} a (searchedOf NoPlaces w out) (cond {A = Searched} b straight (withWork (e .state .work) (delivered (q .start) from (q .goal) e out))) .answer ≡ Spent steps → ⊥)
-          → cond {A = Searched} a (searchedOf NoPlaces w out) (cond {A = Searched} b straight (withWork (l .state .work) (delivered (q .start) from (q .goal) l out)))
-          ≡ cond {A = Searched} a (searchedOf NoPlaces w out) (cond {A = Searched} b straight (withWork (e .state .work) (delivered (q .start) from (q .goal) e out)))
+      go : (a b : Bool) → ((steps : ℕ) → by a b e .answer ≡ Spent steps → ⊥) → by a b l ≡ by a b e
       go true b h = refl
       go false true h = refl
       go false false h =
-          ap (λ (x : Ending). withWork (x .state .work) (delivered (q .start) from (q .goal) x out))
-          (search-longer f task (q .start) from budget more w (λ stopped. h (e .state .counts .pops) (told-stopped e stopped)))
+          ap (λ (x : Ending). withWork (x .state .work) (delivered trip x out))
+          (search-longer f (taskFor trip w) budget more w (λ stopped. h (e .state .counts .pops) (told-stopped e stopped)))
 
 pub larger-budget-same : (s : ℕ) (vs ps question : List ℕ) (budget : ℕ) (w : Work) → LargerBudgetSame s vs ps question budget w
 unfolding searchOf
 larger-budget-same s vs ps question budget w more out = go (lookOf s vs ps question)
   where
-    go : (look : Look) → ((steps : ℕ) → ifInside look w out (λ p goal. betweenOf s (floorOf s vs ps) (questionOf question) p goal budget w out) .answer ≡ Spent steps → ⊥)
-        → ifInside look w out (λ p goal. betweenOf s (floorOf s vs ps) (questionOf question) p goal (budget + more) w out) ≡ ifInside look w out (λ p goal. betweenOf s (floorOf s vs ps) (questionOf question) p goal budget w out)
-    go (Inside from to) h = between-longer s (floorOf s vs ps) (questionOf question) from to w out budget more h
+    with-budget : ℕ → Look → Searched
+    with-budget n look = ifInside look w out (λ from to. betweenOf (floorOf s vs ps) (tripOf (questionOf question) from to) n w out)
+
+    go : (look : Look) → ((steps : ℕ) → with-budget budget look .answer ≡ Spent steps → ⊥) → with-budget (budget + more) look ≡ with-budget budget look
+    go (Inside from to) h = between-longer (floorOf s vs ps) (tripOf (questionOf question) from to) w out budget more h
     go (Refused r) h = refl

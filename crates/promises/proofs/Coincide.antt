@@ -4,6 +4,7 @@ use Prim.Native.Nat.{ℕ}
 use mathlib.Core.Path.{_≡_, sym, ap, _∙_}
 use mathlib.Core.List.{List}
 use lib.Ieee.{Float}
+use Rattle.floor.specs.declared.FloorLook.{FloorLook}
 use Rattle.readout.specs.declared.Readout.{Readout}
 use Rattle.search.specs.Whole.{Searched}
 use Rattle.cart_c.specs.Handed.{Handed}
@@ -93,8 +94,8 @@ readout-told-coincides κs a z y e f p q = p ∙ sym q
 
 -- ---- the floor
 
-pub look-at-floor-coincides : Coincide look-at-floor.Post (λ z e. z)
-look-at-floor-coincides κs a z y e f p q = p ∙ sym q
+pub look-at-floor-coincides : Coincide {S = FloorLook × List ℕ} look-at-floor.Post (λ z e. (z, e .1 .1 .0 .now))
+look-at-floor-coincides κs a z y e f p q = pair (p .0 ∙ sym (q .0)) (p .1 ∙ sym (q .1))
 
 pub look-at-coincides : Coincide look-at.Post (λ z e. z)
 look-at-coincides κs a z y e f p q = p ∙ sym q

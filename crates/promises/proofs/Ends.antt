@@ -1,25 +1,34 @@
--- How a search between two polygons ends, behind the look: its task, its end, and that the end is sound. Assumes nothing.
+-- How a search ends, behind the look: its task, its end, that the end is sound, and the ground that it went over. Assumes nothing.
 use Prim.Native.Nat.{ℕ, _≤_, _<_}
 use native.Mathlib.Omega.{arith}
-use mathlib.Core.Path.{_≡_}
+use mathlib.Core.Path.{_≡_, sym, _∙_, subst}
 use mathlib.Core.Bool.{false}
 use mathlib.Core.List.{List}
 use borrow.Author.Tests.{eqb-false}
 use lib.Dec.{eqb}
-use Rattle.stored.specs.Stored.{Question, floorOf, questionOf}
+use lib.ListN.{length}
+use Rattle.plan.specs.Plan.{slotsIn, polygonCountIn}
+use Rattle.stored.specs.Stored.{Floor, polygonsOf, floorIn}
+use Rattle.stored.proofs.Records.{polygons-counted}
+use Rattle.edges.specs.Where.{planOf}
+use Rattle.edges.specs.Ground.{Ground}
+use Rattle.edges.proofs.Turned.{plan-slots, ground}
+use Rattle.floor.specs.declared.Look.the-variants.{Inside}
+use Rattle.floor.specs.Look.{lookOf}
+use Rattle.floor.proofs.Exact.{each-exactly}
+use Rattle.steps.specs.declared.Trip.{Trip}
 use Rattle.steps.specs.Steps.{seedNode}
-use Rattle.judge.proofs.Looking.{Looked}
 use Rattle.machine.specs.declared.Task.{Task}
 use Rattle.places.specs.Layout.{Work, Room, placesIn}
 use Rattle.machine.specs.Search.{Ending, searchedFrom}
 use Rattle.machine.proofs.Kept.{Finishes}
 use Rattle.machine.proofs.Begun.{sound-searched}
 
-abbrev pub taskFor : ℕ → Question → ℕ → Work → Task
-taskFor s q to w = record { slots = s; goal = q .goal; polygon = to; places = placesIn w }
+abbrev pub taskFor : Trip → Work → Task
+taskFor trip w = record { trip = trip; places = placesIn w }
 
-abbrev pub endFor : ℕ → List ℕ → List ℕ → Question → ℕ → ℕ → Work → ℕ → Ending
-endFor s vs ps q from to w budget = searchedFrom (floorOf s vs ps) (taskFor s q to w) (q .start) from budget w
+abbrev pub endFor : Floor → Trip → ℕ → Work → Ending
+endFor f trip budget w = searchedFrom f (taskFor trip w) budget w
 
 module _ (w : Work) (places : eqb (placesIn w) 0 ≡ false) where
   pub at-least-one : 1 ≤ placesIn w
@@ -30,7 +39,24 @@ module _ (w : Work) (places : eqb (placesIn w) 0 ≡ false) where
   unfolding placesIn
   room = record { floats-room = omega arith; words-room = omega arith; queue-room = omega arith; few = omega arith }
 
-  pub sound-end : (s : ℕ) (vs ps question : List ℕ) (some : 0 < s) (few : s ≤ 16) (from to : ℕ) (looked : Looked s vs ps question from to) (budget : ℕ)
-      → Finishes vs ps (taskFor s (questionOf question) to w) (seedNode (questionOf question .start) from) some few (looked .accepted) (endFor s vs ps (questionOf question) from to w budget)
-  sound-end s vs ps question some few from to looked budget =
-      sound-searched vs ps (taskFor s (questionOf question) to w) some few (looked .accepted) (looked .least) (questionOf question .start) from (looked .from-listed) w room at-least-one budget
+  pub sound-end : {plan vs ps : List ℕ} (g : Ground plan vs ps) (trip : Trip) → trip .from < polygonCountIn plan → (budget : ℕ)
+      → Finishes plan vs ps (taskFor trip w) (seedNode (trip .start) (trip .from)) g (endFor (floorIn plan vs ps) trip budget w)
+  sound-end {plan} {vs} {ps} g trip listed budget = sound-searched plan vs ps (taskFor trip w) g listed w room at-least-one budget
+
+-- ---- the ground of a floor on which a look finds start and goal
+
+module _ (s : ℕ) (vs ps question : List ℕ) (some : 0 < s) (few : s ≤ 16) {from to : ℕ} (e : lookOf s vs ps question ≡ Inside from to) where
+  pub its-ground : Ground (planOf s vs ps) vs ps
+  its-ground =
+      let h = each-exactly s vs ps question (Inside from to) .0 e .0 in
+      ground s vs ps some few (h .0 .vertices-whole .some) (h .0 .vertices-whole .few) (h .0 .polygons-whole .few) (h .1)
+
+  pub its-start : from < polygonCountIn (planOf s vs ps)
+  its-start =
+      let listed = each-exactly s vs ps question (Inside from to) .0 e .2 .listed in
+      subst (λ (n : ℕ). from < n) (polygons-counted (its-ground .polygons-planned))
+      (subst (λ (k : ℕ). from < length (polygonsOf k ps)) (sym (plan-slots s vs ps)) listed)
+
+  -- what holds of the floor by its plan holds of the floor
+  pub by-slots : (P : ℕ → Type 0) → P (slotsIn (planOf s vs ps)) → P s
+  by-slots P h = subst P (plan-slots s vs ps) h

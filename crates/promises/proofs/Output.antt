@@ -12,60 +12,60 @@ use lib.Seq.{take-append-seam}
 use Rattle.floor.specs.declared.Look.{Look}
 use Rattle.floor.specs.declared.Look.the-variants.{Inside, Refused}
 use Rattle.floor.specs.Look.{lookOf}
-use Rattle.stored.specs.Stored.{Floor, Question, floorOf, questionOf}
+use Rattle.stored.specs.Stored.{Floor, floorOf, questionOf}
 use Rattle.route.specs.declared.Judged.the-variants.{Accepted}
 use Rattle.route.proofs.Trails.{route-long}
 use Rattle.judge.specs.declared.Verdict.the-variants.{Read}
 use Rattle.judge.proofs.Exact.{world-is-lawful, verdict-exactly}
-use Rattle.machine.specs.declared.Task.{Task}
+use Rattle.steps.specs.declared.Trip.{Trip}
+use Rattle.steps.specs.World.{tripOf}
 use Rattle.machine.specs.declared.Finish.{Finish}
 use Rattle.machine.specs.declared.Finish.the-variants.{Arrived, Emptied, Filled, Stopped}
 use Rattle.writing.specs.declared.Answer.{Answer}
 use Rattle.writing.specs.declared.Answer.the-variants.{Found, NotFound, NoPlaces, Full, Spent, Short}
 use Rattle.writing.specs.declared.Answer.the-variants.{Refused as Turned}
 use Rattle.places.specs.Layout.{Work, placesIn}
-use Rattle.machine.specs.Search.{Ending, searchedFrom}
+use Rattle.machine.specs.Search.{Ending}
 use Rattle.writing.specs.Delivered.{Delivered, deliveredOf, written, routeBytes, straightBytes, finished, delivered}
 use Rattle.search.specs.Whole.{Searched, searchedOf, ifInside, withWork, routed, betweenOf, searchOf}
 use Rattle.promises.specs.Promises.{NoRoute, Route, Longer, TellsTheSame, without, with-route, FoundExactly, ShortExactly, FoundIs2To4097Records}
+use Rattle.promises.proofs.Ends.{endFor}
 use Rattle.promises.proofs.Routes.{found-is-accepted}
 
 -- ---- what a search tells of any output
 
-module _ (s : ℕ) (f : Floor) (q : Question) (from to budget : ℕ) (w : Work) where
-  abbrev task : Task
-  task = record { slots = s; goal = q .goal; polygon = to; places = placesIn w }
-
+module _ (f : Floor) (trip : Trip) (budget : ℕ) (w : Work) where
   abbrev end : Ending
-  end = searchedFrom f task (q .start) from budget w
+  end = endFor f trip budget w
 
-  finished-tells : (finish : Finish) (steps : ℕ) → TellsTheSame (λ out. withWork (end .state .work) (finished (end .state .work) (q .start) from (q .goal) finish steps out))
-  finished-tells (Arrived i) steps = with-route (routeBytes (end .state .work) (q .start) from (q .goal) i) steps (end .state .work) (λ out. refl)
+  finished-tells : (finish : Finish) (steps : ℕ) → TellsTheSame (λ out. withWork (end .state .work) (finished (end .state .work) trip finish steps out))
+  finished-tells (Arrived i) steps = with-route (routeBytes (end .state .work) trip i) steps (end .state .work) (λ out. refl)
   finished-tells Emptied steps = without (NotFound steps) (end .state .work) tt (λ out. refl)
   finished-tells Filled steps = without (Full steps) (end .state .work) tt (λ out. refl)
   finished-tells Stopped steps = without (Spent steps) (end .state .work) tt (λ out. refl)
 
-  between-tells : TellsTheSame (betweenOf s f q from to budget w)
+  between-tells : TellsTheSame (betweenOf f trip budget w)
   unfolding betweenOf routed delivered
-  between-tells = go (eqb (placesIn w) 0) (eqb from to)
+  between-tells = go (eqb (placesIn w) 0) (eqb (trip .from) (trip .to))
     where
       straight : List ℕ → Searched
-      straight out = withWork w (written (straightBytes (q .start) from (q .goal)) 0 out)
+      straight out = withWork w (written (straightBytes trip) 0 out)
 
       around : List ℕ → Searched
-      around out = withWork (end .state .work) (finished (end .state .work) (q .start) from (q .goal) (end .finish) (end .state .counts .pops) out)
+      around out = withWork (end .state .work) (finished (end .state .work) trip (end .finish) (end .state .counts .pops) out)
 
       go : (a b : Bool) → TellsTheSame (λ out. cond {A = Searched} a (searchedOf NoPlaces w out) (cond {A = Searched} b (straight out) (around out)))
       go true b = without NoPlaces w tt (λ out. refl)
-      go false true = with-route (straightBytes (q .start) from (q .goal)) 0 w (λ out. refl)
+      go false true = with-route (straightBytes trip) 0 w (λ out. refl)
       go false false = finished-tells (end .finish) (end .state .counts .pops)
 
 pub search-tells : (s : ℕ) (vs ps question : List ℕ) (budget : ℕ) (w : Work) → TellsTheSame (searchOf s vs ps question budget w)
 unfolding searchOf
 search-tells s vs ps question budget w = go (lookOf s vs ps question)
   where
-    go : (look : Look) → TellsTheSame (λ out. ifInside look w out (λ p goal. betweenOf s (floorOf s vs ps) (questionOf question) p goal budget w out))
-    go (Inside from to) = between-tells s (floorOf s vs ps) (questionOf question) from to budget w
+    go : (look : Look)
+        → TellsTheSame (λ out. ifInside look w out (λ from to. betweenOf (floorOf s vs ps) (tripOf (questionOf question) from to) budget w out))
+    go (Inside from to) = between-tells (floorOf s vs ps) (tripOf (questionOf question) from to) budget w
     go (Refused r) = without (Turned r) w tt (λ out. refl)
 
 -- ---- what is written

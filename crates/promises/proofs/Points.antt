@@ -8,7 +8,7 @@ use lib.Dec.{ltb}
 use lib.Ieee.{Float}
 use lib.ListN.{length, take}
 use Rattle.point.specs.declared.Point.{Point}
-use Rattle.stored.specs.Stored.{questionOf}
+use Rattle.stored.specs.Stored.{floorOf, questionOf}
 use Rattle.route.specs.declared.Judged.the-variants.{Accepted}
 use Rattle.route.specs.Record.{endBytes}
 use Rattle.judge.specs.declared.Verdict.the-variants.{Read}
@@ -36,7 +36,7 @@ pub found-is-listed : (s : ℕ) (vs ps question : List ℕ) (budget : ℕ) (w : 
 unfolding readoutOf routePoints
 found-is-listed s vs ps question budget w some few bytes out steps n found room count e =
     let file = take n (searchOf s vs ps question budget w out .out) in
-    let points = routePoints s vs ps question file room in
+    let points = routePoints (floorOf s vs ps) question file in
     let accepted = found-is-accepted s vs ps question budget w some few bytes out steps n found in
     let route = verdict-exactly s vs ps question file bytes (Read Accepted) .0 accepted in
     let many : length points ≡ count = listed-all points room count (sym (ap (λ v. answerIf v points room) accepted) ∙ e) in

@@ -11,6 +11,7 @@ use lib.ListN.{length}
 use lib.Seq.{sets}
 use Rattle.told.specs.Told.{numberOf}
 use Rattle.point.specs.declared.Point.{Point}
+use Rattle.stored.specs.Stored.{floorOf}
 use Rattle.route.specs.declared.Judged.the-variants.{Accepted, Length, NotSeed, NotStep, NotEnd}
 use Rattle.judge.specs.declared.Verdict.{Verdict}
 use Rattle.judge.specs.declared.Verdict.the-variants.{Read}
@@ -83,7 +84,7 @@ unfolding readoutOf writtenOf
 read-out-leaves-points s vs ps question route out = go (verdictOf s vs ps question route)
   where
     points : List Point
-    points = routePoints s vs ps question route out
+    points = routePoints (floorOf s vs ps) question route
 
     go : (v : Verdict) → NotRead (answerIf v points out) → outIf v points out ≡ out
     go (Read Accepted) h = listing-leaves points out h

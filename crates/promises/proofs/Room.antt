@@ -10,11 +10,15 @@ use lib.ListN.{length, drop}
 use Rattle.word.specs.Word.{Bytes}
 use Rattle.floor.specs.declared.Look.{Look}
 use Rattle.floor.specs.declared.Look.the-variants.{Inside, Refused}
-use Rattle.stored.specs.Stored.{Floor, Question, floorOf, questionOf}
+use Rattle.plan.specs.Plan.{slotsIn, polygonCountIn}
+use Rattle.stored.specs.Stored.{Floor, floorOf, floorIn, questionOf}
+use Rattle.edges.specs.Ground.{Ground}
 use Rattle.floor.specs.Look.{lookOf}
+use Rattle.steps.specs.declared.Node.{Node}
+use Rattle.steps.specs.declared.Trip.{Trip}
 use Rattle.steps.specs.Steps.{seedNode}
+use Rattle.steps.specs.World.{tripOf}
 use Rattle.steps.proofs.World.{lawful}
-use Rattle.judge.proofs.Looking.{Looked, inside-tells}
 use Rattle.machine.specs.declared.Task.{Task}
 use Rattle.machine.specs.declared.Finish.{Finish}
 use Rattle.machine.specs.declared.Finish.the-variants.{Arrived, Emptied, Filled, Stopped}
@@ -27,7 +31,7 @@ use Rattle.search.specs.Whole.{Searched, searchedOf, ifInside, withWork, routed
 use Rattle.machine.proofs.Kept.{Arrives, Finishes}
 use Rattle.search.proofs.Found.{route-long, straight-long}
 use Rattle.promises.specs.Promises.{WideIsNeverShort, LargerOutputSame}
-use Rattle.promises.proofs.Ends.{taskFor, endFor, at-least-one, sound-end}
+use Rattle.promises.proofs.Ends.{taskFor, endFor, at-least-one, sound-end, its-ground, its-start, by-slots}
 use Rattle.promises.proofs.Output.{search-tells, found-tells, route-fits, route-front}
 
 -- ---- what is written
@@ -42,52 +46,56 @@ short-written bytes most few counted out steps room = go (ltb (length out) (leng
 
 -- ---- what is found
 
-module _ (s : ℕ) (vs ps question : List ℕ) (some : 0 < s) (few : s ≤ 16) (bytes : Bytes ps) (from to : ℕ) (looked : Looked s vs ps question from to) (w : Work) (budget : ℕ) (out : List ℕ) (wide : 32 * (placesIn w + 1) ≤ length out) where
+module _ {plan vs ps : List ℕ} (g : Ground plan vs ps) (bytes : Bytes ps) (trip : Trip) (listed : trip .from < polygonCountIn plan) (w : Work) (budget : ℕ)
+    (out : List ℕ) (wide : 32 * (placesIn w + 1) ≤ length out) where
   abbrev f : Floor
-  f = floorOf s vs ps
-
-  abbrev q : Question
-  q = questionOf question
+  f = floorIn plan vs ps
 
   abbrev task : Task
-  task = taskFor s q to w
+  task = taskFor trip w
+
+  abbrev seed : Node
+  seed = seedNode (trip .start) (trip .from)
 
   abbrev end : Ending
-  end = endFor s vs ps q from to w budget
+  end = endFor f trip budget w
 
   module _ (places : eqb (placesIn w) 0 ≡ false) where
-    sound : Finishes vs ps task (seedNode (q .start) from) some few (looked .accepted) end
-    sound = sound-end w places s vs ps question some few from to looked budget
+    sound : Finishes plan vs ps task seed g end
+    sound = sound-end w places g trip listed budget
 
-    by-finish : (finish : Finish) → Arrives vs ps task (seedNode (q .start) from) some few (looked .accepted) (end .state) (Ends finish) → (counted steps : ℕ)
-        → finished (end .state .work) (q .start) from (q .goal) finish counted out .answer ≡ Short steps → ⊥
+    by-finish : (finish : Finish) → Arrives plan vs ps task seed g (end .state) (Ends finish) → (counted steps : ℕ)
+        → finished (end .state .work) trip finish counted out .answer ≡ Short steps → ⊥
     by-finish (Arrived i) at counted steps e =
-        let long = route-long vs ps task q refl from (end .state) (sound .sound) (lawful s vs ps bytes q from to) i (at .0) in
+        let long = route-long plan vs ps task (end .state) (sound .sound) (lawful (slotsIn plan) vs ps bytes trip) i (at .0) in
         let h = sound .sound .held i (at .0) .depth-few in
-        short-written (routeBytes (end .state .work) (q .start) from (q .goal) i) (placesIn w) (omega (arith, long, h, at .0, sound .sound .taken-in)) counted out steps wide e
+        let few = omega (arith, long, h, at .0, sound .sound .taken-in) in
+        short-written (routeBytes (end .state .work) trip i) (placesIn w) few counted out steps wide e
     by-finish Emptied at counted steps e = let z : _≡_ {A = ℕ} 0 1 = cc in omega arith
     by-finish Filled at counted steps e = let z : _≡_ {A = ℕ} 0 1 = cc in omega arith
     by-finish Stopped at counted steps e = let z : _≡_ {A = ℕ} 0 1 = cc in omega arith
 
-    routed-wide : (steps : ℕ) → routed f task (q .start) from budget w out .answer ≡ Short steps → ⊥
+    routed-wide : (steps : ℕ) → routed f task budget w out .answer ≡ Short steps → ⊥
     unfolding routed delivered
-    routed-wide steps = go (eqb from to)
+    routed-wide steps = go (eqb (trip .from) (trip .to))
       where
         straight : Delivered
-        straight = written (straightBytes (q .start) from (q .goal)) 0 out
+        straight = written (straightBytes trip) 0 out
 
         around : Delivered
-        around = finished (end .state .work) (q .start) from (q .goal) (end .finish) (end .state .counts .pops) out
+        around = finished (end .state .work) trip (end .finish) (end .state .counts .pops) out
 
         go : (b : Bool) → cond {A = Searched} b (withWork w straight) (withWork (end .state .work) around) .answer ≡ Short steps → ⊥
-        go true e = short-written (straightBytes (q .start) from (q .goal)) (placesIn w) (omega (arith, straight-long vs ps task q refl from, at-least-one w places)) 0 out steps wide e
+        go true e =
+            let few = omega (arith, straight-long plan vs ps task, at-least-one w places) in
+            short-written (straightBytes trip) (placesIn w) few 0 out steps wide e
         go false e = by-finish (end .finish) (sound .arrives) (end .state .counts .pops) steps e
 
-  between-wide : (steps : ℕ) → betweenOf s f q from to budget w out .answer ≡ Short steps → ⊥
+  between-wide : (steps : ℕ) → betweenOf f trip budget w out .answer ≡ Short steps → ⊥
   unfolding betweenOf
   between-wide steps = go (eqb (placesIn w) 0) refl
     where
-      go : (b : Bool) → eqb (placesIn w) 0 ≡ b → cond {A = Searched} b (searchedOf NoPlaces w out) (routed f task (q .start) from budget w out) .answer ≡ Short steps → ⊥
+      go : (b : Bool) → eqb (placesIn w) 0 ≡ b → cond {A = Searched} b (searchedOf NoPlaces w out) (routed f task budget w out) .answer ≡ Short steps → ⊥
       go true same e = let z : _≡_ {A = ℕ} 0 1 = cc in omega arith
       go false same e = routed-wide same steps e
 
@@ -95,8 +103,16 @@ pub wide-is-never-short : (s : ℕ) (vs ps question : List ℕ) (budget : ℕ) (
 unfolding searchOf
 wide-is-never-short s vs ps question budget w some few bytes out wide steps = go (lookOf s vs ps question) refl
   where
-    go : (look : Look) → lookOf s vs ps question ≡ look → ifInside look w out (λ p goal. betweenOf s (floorOf s vs ps) (questionOf question) p goal budget w out) .answer ≡ Short steps → ⊥
-    go (Inside from to) l e = between-wide s vs ps question some few bytes from to (inside-tells s vs ps question from to l) w budget out wide steps e
+    trip : ℕ → ℕ → Trip
+    trip from to = tripOf (questionOf question) from to
+
+    go : (look : Look) → lookOf s vs ps question ≡ look
+        → ifInside look w out (λ from to. betweenOf (floorOf s vs ps) (trip from to) budget w out) .answer ≡ Short steps → ⊥
+    go (Inside from to) l e =
+        let ground = its-ground s vs ps question some few l in
+        let start = its-start s vs ps question some few l in
+        by-slots s vs ps question some few l (λ (k : ℕ). betweenOf (floorOf k vs ps) (trip from to) budget w out .answer ≡ Short steps → ⊥)
+        (between-wide ground bytes (trip from to) start w budget out wide steps) e
     go (Refused r) l e = let z : _≡_ {A = ℕ} 0 1 = cc in omega arith
 
 -- ---- a larger output

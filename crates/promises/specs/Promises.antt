@@ -11,7 +11,7 @@ use lib.Dec.{eqb}
 use lib.Ieee.{Float}
 use lib.ListN.{length, take}
 use Rattle.word.specs.Word.{Bytes}
-use Rattle.stored.specs.Stored.{questionOf}
+use Rattle.stored.specs.Stored.{floorOf, questionOf}
 use Rattle.floor.specs.declared.Refusal.{Refusal}
 use Rattle.floor.specs.declared.Look.the-variants.{Inside, Refused}
 use Rattle.floor.specs.Look.{lookOf}
@@ -87,7 +87,7 @@ module _ (slots : ℕ) (vertices polygons question : List ℕ) (budget : ℕ) (w
       → let file = take n (search out .out) in
       (room : List Float) (count : ℕ) → readoutOf slots vertices polygons question file room ≡ Listed count
       → recordAt file (length file / 32 - 1)
-      ≡ endBytes count (questionOf question .goal) (lengthOf (questionOf question .start) (routePoints slots vertices polygons question file room))
+      ≡ endBytes count (questionOf question .goal) (lengthOf (questionOf question .start) (routePoints (floorOf slots vertices polygons) question file))
 
   -- 0 comes exactly where the search finds a route that is not longer than the output,
   abbrev pub FoundExactly : Type 0

@@ -17,6 +17,20 @@ pub struct Record {
     pub words: [u32; 8],
 }
 
+// Where the words of a step's record stand behind its kind: the polygon entered, the edge's two vertices, the two ends of the interval.
+const POLYGON: usize = 4;
+
+const FIRST: usize = 8;
+
+const SECOND: usize = 12;
+
+const RIGHT: usize = 16;
+
+const LEFT: usize = 24;
+
+// Where the end record has the number of points.
+const POINTS: usize = 4;
+
 // The most records of a route file.
 const MOST_RECORDS: usize = 4097;
 
@@ -147,7 +161,7 @@ pub fn polygon_at(route: &[u8], i: usize) -> u32
     requires { ⌜ (i + 1) * 32 ≤ length (now route) ⌝ }
     ensures { λ r. ⌜ r ≡ polygonWord (now (route .entry)) i ⌝ }
 {
-    word::read(route, i * Record::BYTES + 4)
+    word::read(route, i * Record::BYTES + POLYGON)
 }
 
 // The first vertex of the edge that it leads over.
@@ -155,7 +169,7 @@ pub fn first_at(route: &[u8], i: usize) -> u32
     requires { ⌜ (i + 1) * 32 ≤ length (now route) ⌝ }
     ensures { λ r. ⌜ r ≡ firstWord (now (route .entry)) i ⌝ }
 {
-    word::read(route, i * Record::BYTES + 8)
+    word::read(route, i * Record::BYTES + FIRST)
 }
 
 // The second one.
@@ -163,7 +177,7 @@ pub fn second_at(route: &[u8], i: usize) -> u32
     requires { ⌜ (i + 1) * 32 ≤ length (now route) ⌝ }
     ensures { λ r. ⌜ r ≡ secondWord (now (route .entry)) i ⌝ }
 {
-    word::read(route, i * Record::BYTES + 12)
+    word::read(route, i * Record::BYTES + SECOND)
 }
 
 // How many points the route has, where record i is its end.
@@ -171,7 +185,7 @@ pub fn points_at(route: &[u8], i: usize) -> u32
     requires { ⌜ (i + 1) * 32 ≤ length (now route) ⌝ }
     ensures { λ r. ⌜ r ≡ pointsWord (now (route .entry)) i ⌝ }
 {
-    word::read(route, i * Record::BYTES + 4)
+    word::read(route, i * Record::BYTES + POINTS)
 }
 
 // Whether a point's two words stand here.
@@ -188,8 +202,8 @@ pub fn has_interval(route: &[u8], i: usize, interval: Segment) -> bool
     requires { ⌜ (i + 1) * 32 ≤ length (now route) ⌝ }
     ensures { λ r. ⌜ r ≡ intervalStands interval (now (route .entry)) i ⌝ }
 {
-    is_point(interval.0, route, i * Record::BYTES + 16)
-        && is_point(interval.1, route, i * Record::BYTES + 24)
+    is_point(interval.0, route, i * Record::BYTES + RIGHT)
+        && is_point(interval.1, route, i * Record::BYTES + LEFT)
 }
 
 // The step that a record is, where it is one: so a step need not be handed on beside its record.
@@ -198,8 +212,8 @@ pub fn step_in(route: &[u8], i: usize) -> Step
     ensures { λ r. ⌜ r ≡ stepIn (now (route .entry)) i ⌝ }
 {
     let kind = kind_in(kind_at(route, i));
-    let right = point_in(route, i * Record::BYTES + 16);
-    let left = point_in(route, i * Record::BYTES + 24);
+    let right = point_in(route, i * Record::BYTES + RIGHT);
+    let left = point_in(route, i * Record::BYTES + LEFT);
     Step {
         kind,
         polygon: polygon_at(route, i),
