@@ -36,14 +36,19 @@ pub record Runs (plan vs ps : List ℕ) (t : Task) (budget : ℕ) (was at : Stat
   pub count : at .counts .pops + left ≤ was .counts .pops + budget
   pub rest : run (floorIn plan vs ps) t budget was ≡ run (floorIn plan vs ps) t left at
 
-pub runs-begin : (plan vs ps : List ℕ) (t : Task) (budget : ℕ) (was : State) → SoundFrom plan vs ps t was → Runs plan vs ps t budget was was budget
-runs-begin plan vs ps t budget was h = record { sound = h; long = record { floats-long = refl; words-long = refl; queue-long = refl }; count = omega arith; rest = refl }
+pub runs-begin : (budget : ℕ) {plan vs ps : List ℕ} {t : Task} {was : State} → SoundFrom plan vs ps t was → Runs plan vs ps t budget was was budget
+runs-begin budget h = record {
+  sound = h;
+  long = record { floats-long = refl; words-long = refl; queue-long = refl };
+  count = omega arith;
+  rest = refl;
+}
 
-module _ (plan vs ps : List ℕ) (t : Task) (budget : ℕ) (was at : State) (left : ℕ) (g : Ground plan vs ps) (r : Runs plan vs ps t budget was at left) where
+module _ {plan vs ps : List ℕ} {t : Task} {budget : ℕ} {was at : State} {left : ℕ} (g : Ground plan vs ps) (r : Runs plan vs ps t budget was at left) where
   abbrev f : Floor
   f = floorIn plan vs ps
 
-  module _ (some : 0 < left) (st : Stepping) (stepped : st ≡ step f t at) where
+  module _ (some : 0 < left) {st : Stepping} (stepped : st ≡ step f t at) where
     turned : run f t budget was ≡ onwards f t (st .state) (st .outcome) (run f t (left - 1))
     unfolding run
     turned =
@@ -54,20 +59,23 @@ module _ (plan vs ps : List ℕ) (t : Task) (budget : ℕ) (was at : State) (lef
     runs-ends e = sym (turned ∙ ap (λ (o : Outcome). onwards f t (st .state) o (run f t (left - 1))) e)
 
     pub runs-next : st .outcome ≡ Goes → AsLong (st .state) at → Runs plan vs ps t budget was (st .state) (left - 1)
-    runs-next e long = record {
-      sound = record {
-        seed = r .sound .seed;
-        sound = subst (λ (x : Stepping). Sound plan vs ps t (r .sound .seed) (x .state)) (sym stepped) (sound-step plan vs ps t (r .sound .seed) g at (r .sound .sound) .sound);
-        numbered = subst (λ (x : Stepping). Numbered (x .state)) (sym stepped) (numbered-step plan vs ps t (r .sound .seed) g at (r .sound .sound) (r .sound .numbered));
-      };
-      long = record {
-        floats-long = long .floats-long ∙ r .long .floats-long;
-        words-long = long .words-long ∙ r .long .words-long;
-        queue-long = long .queue-long ∙ r .long .queue-long;
-      };
-      count = let p = rw (← stepped) at (pops-step f t at) in omega (arith, p, r .count, some);
-      rest = turned ∙ ap (λ (o : Outcome). onwards f t (st .state) o (run f t (left - 1))) e;
-    }
+    runs-next e long =
+        let seed = r .sound .seed in
+        let sound = r .sound .sound in
+        record {
+          sound = record {
+            seed = seed;
+            sound = subst (λ (x : Stepping). Sound plan vs ps t seed (x .state)) (sym stepped) (sound-step plan vs ps t seed g at sound .sound);
+            numbered = subst (λ (x : Stepping). Numbered (x .state)) (sym stepped) (numbered-step plan vs ps t seed g at sound (r .sound .numbered));
+          };
+          long = record {
+            floats-long = long .floats-long ∙ r .long .floats-long;
+            words-long = long .words-long ∙ r .long .words-long;
+            queue-long = long .queue-long ∙ r .long .queue-long;
+          };
+          count = let p = rw (← stepped) at (pops-step f t at) in omega (arith, p, r .count, some);
+          rest = turned ∙ ap (λ (o : Outcome). onwards f t (st .state) o (run f t (left - 1))) e;
+        }
 
   module _ (over : left ≤ 0) {w : ℕ} (least : w ≡ leastIn (t .places) (at .work)) where
     at-end : run f t budget was ≡ run f t 0 at
@@ -89,9 +97,17 @@ firstOf w = stateOf w (record { taken = 1; records = 1; pops = 0 })
 abbrev pub leavesSeed : Node → Origin
 leavesSeed seed = record { place = 0; depth = 0; number = 0; node = seed }
 
-module _ (plan vs ps : List ℕ) (t : Task) (was : Work) (g : Ground plan vs ps) (room : Room (t .places) was) (places : 1 ≤ t .places)
-    (listed : t .trip .from < polygonCountIn plan) (apart : eqb (t .trip .from) (t .trip .to) ≡ false)
-    (self : sameOf (t .trip .start) (t .trip .start) ≡ true) {seed : Node} (seeded : seed ≡ seedNode (t .trip .start) (t .trip .from)) {w : Work}
+-- what is asked of a search, and its seed
+pub record Begins (plan vs ps : List ℕ) (t : Task) (was : Work) (seed : Node) : Type 0 where
+  pub ground : Ground plan vs ps
+  pub room : Room (t .places) was
+  pub places : 1 ≤ t .places
+  pub listed : t .trip .from < polygonCountIn plan
+  pub apart : eqb (t .trip .from) (t .trip .to) ≡ false
+  pub self : sameOf (t .trip .start) (t .trip .start) ≡ true
+  pub seeded : seed ≡ seedNode (t .trip .start) (t .trip .from)
+
+module _ {plan vs ps : List ℕ} {t : Task} {was : Work} {seed : Node} (h : Begins plan vs ps t was seed) {w : Work}
     (grown : w ≡ planted (floorIn plan vs ps) t seed was) where
   abbrev start : Point
   start = t .trip .start
@@ -99,52 +115,60 @@ module _ (plan vs ps : List ℕ) (t : Task) (was : Work) (g : Ground plan vs ps)
   abbrev p : ℕ
   p = t .trip .from
 
-  abbrev ground : Floor
-  ground = floorIn plan vs ps
+  abbrev floor : Floor
+  floor = floorIn plan vs ps
 
-  first-is : firstOf w ≡ begun ground t (seedNode start p) was
+  first-is : firstOf w ≡ begun floor t (seedNode start p) was
   unfolding begun
-  first-is = rw (grown, seeded)
+  first-is = rw (grown, h .seeded)
 
   first-sound : Sound plan vs ps t (seedNode start p) (firstOf w)
-  first-sound = subst (Sound plan vs ps t (seedNode start p)) (sym first-is) (sound-begun plan vs ps t g listed was room places)
+  first-sound = subst (Sound plan vs ps t (seedNode start p)) (sym first-is) (sound-begun plan vs ps t (h .ground) (h .listed) was (h .room) (h .places))
 
   pub first-fit : Fit t (firstOf w)
   first-fit = first-sound .fit
 
   first-on-record : OnRecord (firstOf w) (seedNode start p .root) 0
-  first-on-record = subst (λ (x : State). OnRecord x (seedNode start p .root) 0) (sym first-is) (on-first plan vs ps t g listed was room places self)
+  first-on-record =
+      subst (λ (x : State). OnRecord x (seedNode start p .root) 0) (sym first-is)
+      (on-first plan vs ps t (h .ground) (h .listed) was (h .room) (h .places) (h .self))
 
   pub first-leaves : Leaves plan vs ps (firstOf w) (leavesSeed seed)
   unfolding seedNode
-  first-leaves = rw seeded (record {
-    stands = seed-stands plan vs ps g start p listed;
+  first-leaves = rw (h .seeded) (record {
+    stands = seed-stands plan vs ps (h .ground) start p (h .listed);
     leaving = record { on-record = first-on-record; place-few = omega arith; depth-few = omega arith; points-few = omega arith };
   })
 
   pub first-apart : eqb (seed .polygon) (t .trip .to) ≡ false
   unfolding seedNode
-  first-apart = rw seeded apart
+  first-apart = rw (h .seeded) (h .apart)
 
-  module _ (m : Making) (made : m ≡ madeAll ground t (firstOf w) (leavesSeed seed) (stepsFrom ground (t .trip .to) seed)) where
-    made-is : m ≡ madeAll ground t (begun ground t (seedNode start p) was) (seedOrigin ground t (seedNode start p)) (stepsFrom ground (t .trip .to) (seedNode start p))
+  module _ {m : Making} (made : m ≡ madeAll floor t (firstOf w) (leavesSeed seed) (stepsFrom floor (t .trip .to) seed)) where
+    made-is : m ≡ madeAll floor t (begun floor t (seedNode start p) was) (seedOrigin floor t (seedNode start p))
+        (stepsFrom floor (t .trip .to) (seedNode start p))
     unfolding seedOrigin
-    made-is = made ∙ rw (first-is, seeded)
+    made-is = made ∙ rw (first-is, h .seeded)
 
     pub made-sound : SoundFrom plan vs ps t (m .state)
     made-sound = record {
       seed = seedNode start p;
-      sound = subst (λ (x : Making). Sound plan vs ps t (seedNode start p) (x .state)) (sym made-is) (sound-seeded plan vs ps t g listed was room places);
-      numbered = subst (λ (x : Making). Numbered (x .state)) (sym made-is) (numbered-seeded plan vs ps t g listed was room places self);
+      sound =
+          subst (λ (x : Making). Sound plan vs ps t (seedNode start p) (x .state)) (sym made-is)
+          (sound-seeded plan vs ps t (h .ground) (h .listed) was (h .room) (h .places));
+      numbered =
+          subst (λ (x : Making). Numbered (x .state)) (sym made-is)
+          (numbered-seeded plan vs ps t (h .ground) (h .listed) was (h .room) (h .places) (h .self));
     }
 
     pub made-uncounted : m .state .counts .pops ≡ 0
-    made-uncounted = ap (λ (x : Making). x .state .counts .pops) made ∙ pops-made-all ground t (stepsFrom ground (t .trip .to) seed) (firstOf w) (leavesSeed seed)
+    made-uncounted =
+        ap (λ (x : Making). x .state .counts .pops) made ∙ pops-made-all floor t (stepsFrom floor (t .trip .to) seed) (firstOf w) (leavesSeed seed)
 
-    pub searches-full : (budget : ℕ) → m .full ≡ true → ending (m .state) Filled ≡ searchedFrom ground t budget was
+    pub searches-full : (budget : ℕ) → m .full ≡ true → ending (m .state) Filled ≡ searchedFrom floor t budget was
     unfolding searchedFrom
     searches-full budget e = rw (← made-is, e)
 
-    pub searches-on : (budget : ℕ) → m .full ≡ false → {e : Ending} → e ≡ run ground t budget (m .state) → e ≡ searchedFrom ground t budget was
+    pub searches-on : (budget : ℕ) → m .full ≡ false → {e : Ending} → e ≡ run floor t budget (m .state) → e ≡ searchedFrom floor t budget was
     unfolding searchedFrom
     searches-on budget full e = e ∙ rw (← made-is, full)

@@ -49,7 +49,11 @@ fn visit(
     requires { ⌜ Ground (now plan) (now vertices) (now polygons) ⌝ }
     requires { ⌜ SoundFrom (now plan) (now vertices) (now polygons) task (stateOf (workOf (now floats) (now words) (now tree)) counts) ⌝ }
     requires { ⌜ i < counts .taken ⌝ }
-    ensures { λ r. let f = floorIn (now (plan .entry)) (now (vertices .entry)) (now (polygons .entry)) in let before = stateOf (workOf (now (floats .entry)) (now (words .entry)) (now (tree .entry))) counts in let after = stateOf (workOf (now (floats .exit)) (now (words .exit)) (now (tree .exit))) (r .counts) in ⌜ stepping after (r .outcome) ≡ visited f task before i ⌝ }
+    ensures { λ r.
+        let f = floorIn (now (plan .entry)) (now (vertices .entry)) (now (polygons .entry)) in
+        let before = stateOf (workOf (now (floats .entry)) (now (words .entry)) (now (tree .entry))) counts in
+        let after = stateOf (workOf (now (floats .exit)) (now (words .exit)) (now (tree .exit))) (r .counts) in
+        ⌜ stepping after (r .outcome) ≡ visited f task before i ⌝ }
 {
     let node = node_at(floats, words, i);
     let number = number_at(words, i) as usize;
@@ -109,7 +113,11 @@ fn turn(
     requires { ⌜ Ground (now plan) (now vertices) (now polygons) ⌝ }
     requires { ⌜ SoundFrom (now plan) (now vertices) (now polygons) task (stateOf (workOf (now floats) (now words) (now tree)) counts) ⌝ }
     requires { ⌜ counts .pops + 1 < 2 ^ 64 ⌝ }
-    ensures { λ r. let f = floorIn (now (plan .entry)) (now (vertices .entry)) (now (polygons .entry)) in let before = stateOf (workOf (now (floats .entry)) (now (words .entry)) (now (tree .entry))) counts in let after = stateOf (workOf (now (floats .exit)) (now (words .exit)) (now (tree .exit))) (r .counts) in ⌜ stepping after (r .outcome) ≡ step f task before ⌝ }
+    ensures { λ r.
+        let f = floorIn (now (plan .entry)) (now (vertices .entry)) (now (polygons .entry)) in
+        let before = stateOf (workOf (now (floats .entry)) (now (words .entry)) (now (tree .entry))) counts in
+        let after = stateOf (workOf (now (floats .exit)) (now (words .exit)) (now (tree .exit))) (r .counts) in
+        ⌜ stepping after (r .outcome) ≡ step f task before ⌝ }
 {
     let least = queue::least(tree);
     if least == NONE {
@@ -153,7 +161,11 @@ fn run(
     requires { ⌜ Ground (now plan) (now vertices) (now polygons) ⌝ }
     requires { ⌜ SoundFrom (now plan) (now vertices) (now polygons) task (stateOf (workOf (now floats) (now words) (now tree)) counts) ⌝ }
     requires { ⌜ counts .pops + budget < 2 ^ 64 ⌝ }
-    ensures { λ r. let f = floorIn (now (plan .entry)) (now (vertices .entry)) (now (polygons .entry)) in let before = stateOf (workOf (now (floats .entry)) (now (words .entry)) (now (tree .entry))) counts in let after = stateOf (workOf (now (floats .exit)) (now (words .exit)) (now (tree .exit))) (r .counts) in ⌜ ending after (r .finish) ≡ run f task budget before ⌝ }
+    ensures { λ r.
+        let f = floorIn (now (plan .entry)) (now (vertices .entry)) (now (polygons .entry)) in
+        let before = stateOf (workOf (now (floats .entry)) (now (words .entry)) (now (tree .entry))) counts in
+        let after = stateOf (workOf (now (floats .exit)) (now (words .exit)) (now (tree .exit))) (r .counts) in
+        ⌜ ending after (r .finish) ≡ run f task budget before ⌝ }
 {
     let mut counts = counts;
     let mut left = budget;
@@ -181,7 +193,10 @@ fn run(
 // The seed takes place 0, and its root is on record with distance 0.
 fn plant(task: Task, seed: Node, floats: &mut [f32], words: &mut [u32], tree: &mut [u32])
     requires { ⌜ Room (task .places) (workOf (now floats) (now words) (now tree)) × (1 ≤ task .places) ⌝ }
-    ensures { λ _. ⌜ ((f : Floor) → workOf (now (floats .exit)) (now (words .exit)) (now (tree .exit)) ≡ planted f task seed (workOf (now (floats .entry)) (now (words .entry)) (now (tree .entry)))) ⌝ }
+    ensures { λ _.
+        let before = workOf (now (floats .entry)) (now (words .entry)) (now (tree .entry)) in
+        let after = workOf (now (floats .exit)) (now (words .exit)) (now (tree .exit)) in
+        ⌜ ((f : Floor) → after ≡ planted f task seed before) ⌝ }
 {
     queue::clear(tree, task.places);
     put_floats(floats, 0, seed, 0.0);
@@ -202,8 +217,13 @@ pub fn search_from(
 ) -> Ended
     requires { ⌜ Ground (now plan) (now vertices) (now polygons) ⌝ }
     requires { ⌜ Room (task .places) (workOf (now floats) (now words) (now tree)) × (1 ≤ task .places) ⌝ }
-    requires { ⌜ (task .trip .from < polygonCountIn (now plan)) × (eqb (task .trip .from) (task .trip .to) ≡ false) × (sameOf (task .trip .start) (task .trip .start) ≡ true) ⌝ }
-    ensures { λ r. let f = floorIn (now (plan .entry)) (now (vertices .entry)) (now (polygons .entry)) in let before = workOf (now (floats .entry)) (now (words .entry)) (now (tree .entry)) in let after = stateOf (workOf (now (floats .exit)) (now (words .exit)) (now (tree .exit))) (r .counts) in ⌜ ending after (r .finish) ≡ searchedFrom f task budget before ⌝ }
+    requires { let trip = task .trip in
+        ⌜ (trip .from < polygonCountIn (now plan)) × (eqb (trip .from) (trip .to) ≡ false) × (sameOf (trip .start) (trip .start) ≡ true) ⌝ }
+    ensures { λ r.
+        let f = floorIn (now (plan .entry)) (now (vertices .entry)) (now (polygons .entry)) in
+        let before = workOf (now (floats .entry)) (now (words .entry)) (now (tree .entry)) in
+        let after = stateOf (workOf (now (floats .exit)) (now (words .exit)) (now (tree .exit))) (r .counts) in
+        ⌜ ending after (r .finish) ≡ searchedFrom f task budget before ⌝ }
 {
     let trip = task.trip;
     let seed = Node::seed(trip.start, trip.from);

@@ -1,10 +1,10 @@
 -- `popping::run` meets its contract. Assumes nothing.
 use denote.Ref.{now}
 use native.Mathlib.Omega.{arith}
-use mathlib.Core.Path.{_∙_}
+use mathlib.Core.Path.{_≡_}
 use borrow.Author.Needs.{needs}
-use Rattle.places.specs.Layout.{workOf}
-use Rattle.machine.specs.Search.{stateOf}
+use Rattle.places.specs.Layout.{workOf, leastIn}
+use Rattle.machine.specs.Search.{State, stateOf}
 use Rattle.popping.proofs.Stepping.{least-is}
 use Rattle.popping.proofs.Running.{Runs, runs-begin, runs-ends, runs-next, runs-empty, runs-out}
 use Rattle.popping.proofs.run.Statement.{statement}
@@ -17,125 +17,76 @@ Inv-loop vertices polygons plan task budget floats₀ words₀ tree₀ counts₀
 abbrev μ-loop : tie.MeasureT-loop
 μ-loop vertices polygons plan task budget floats₀ words₀ tree₀ counts₀ left₀ floats words tree counts left = left
 
-loop-holds : tie.Need-loop-holds Inv-loop μ-loop
-loop-holds c =
-    let s = c .before .before .before .before .before in
-    runs-begin (now (s .args .plan)) (now (s .args .vertices)) (now (s .args .polygons)) (s .args .task) (s .args .budget)
-    (stateOf (workOf (now (s .args .floats)) (now (s .args .words)) (now (s .args .tree))) (s .args .counts)) (s .pre .1 .0)
+-- ---- places, the first first
+
+abbrev start : tie.After-slice-known3 Inv-loop μ-loop → tie.Start Inv-loop μ-loop
+start c = c .before .before .before .before .before
+
+abbrev begun : tie.At-loop Inv-loop μ-loop → tie.Start Inv-loop μ-loop
+begun l = start (l .before)
+
+abbrev at : tie.At-loop Inv-loop μ-loop → State
+at l = stateOf (workOf (l .loop .floats) (l .loop .words) (l .loop .tree)) (l .loop .counts)
+
+-- in the loop, before the turn
+abbrev turning : tie.After-turn-arg3 Inv-loop μ-loop → tie.In-loop Inv-loop μ-loop
+turning c = c .before .before .before
+
+abbrev turned : tie.After-counts Inv-loop μ-loop → tie.After-turn Inv-loop μ-loop
+turned c = c .before .before .before .before .before .before .before
+
+-- the turn that ended the search
+abbrev last : tie.After-known-told Inv-loop μ-loop → tie.After-turn Inv-loop μ-loop
+last c = turned (c .before .before .before)
+
+abbrev looping : tie.After-turn Inv-loop μ-loop → tie.At-loop Inv-loop μ-loop
+looping c = turning (c .before) .before
+
+-- the loop, before the queue was asked
+abbrev spent : tie.After-least Inv-loop μ-loop → tie.After-loop Inv-loop μ-loop
+spent c = c .before .before
+
+-- ---- what is known
+
+least : (c : tie.After-least Inv-loop μ-loop) → let l = spent c .before in c .least .result ≡ leastIn (begun l .args .task .places) (at l .work)
+least c = least-is (spent c .before .loop .inv .sound) (c .least .ensures .1)
+
+-- ---- a turn
 
 turn-requires : tie.Need-turn-requires Inv-loop μ-loop
 turn-requires c κs =
-    let at-loop-test = c .before .before .before in
-    let at-loop = at-loop-test .before in
-    let s = at-loop .before .before .before .before .before .before in
-    let l = at-loop .loop in
-    (s .pre .0, (l .inv .sound, omega (arith, l .inv .count, s .pre .1 .1, at-loop-test .loop-test .taken)))
-
-enum-known-outcome : tie.Need-enum-known-outcome Inv-loop μ-loop
-enum-known-outcome c = search needs
-
-same-length : tie.Need-same-length Inv-loop μ-loop
-same-length c =
-    let at-turn = c .before .before .before .before .before .before .before .before .before .before in
-    let at-loop = at-turn .before .before .before .before .before in
-    at-turn .turn .kept .1 .1 .1 .1 .1 .0 ∙ at-loop .loop .inv .long .floats-long
-
-same-length-2 : tie.Need-same-length-2 Inv-loop μ-loop
-same-length-2 c =
-    let at-turn = c .before .before .before .before .before .before .before .before .before .before in
-    let at-loop = at-turn .before .before .before .before .before in
-    at-turn .turn .kept .1 .1 .1 .1 .1 .1 .0 ∙ at-loop .loop .inv .long .words-long
-
-same-length-3 : tie.Need-same-length-3 Inv-loop μ-loop
-same-length-3 c =
-    let at-turn = c .before .before .before .before .before .before .before .before .before .before in
-    let at-loop = at-turn .before .before .before .before .before in
-    at-turn .turn .kept .1 .1 .1 .1 .1 .1 .1 .0 ∙ at-loop .loop .inv .long .queue-long
+    let l = turning c .before in
+    let s = begun l in
+    (s .pre .0, (l .loop .inv .sound, omega (arith, l .loop .inv .count, s .pre .1 .1, turning c .loop-test .taken)))
 
 returns : tie.Need-returns Inv-loop μ-loop
 returns c =
-    let at-turn = c .before .before .before .before .before .before .before .before .before .before in
-    let at-loop-test = at-turn .before .before .before .before in
-    let at-loop = at-loop-test .before in
-    let s = at-loop .before .before .before .before .before .before in
-    let l = at-loop .loop in
-    let at = stateOf (workOf (l .floats) (l .words) (l .tree)) (l .counts) in
-    runs-ends (now (s .args .plan)) (now (s .args .vertices)) (now (s .args .polygons)) (s .args .task) (s .args .budget)
-    (stateOf (workOf (now (s .args .floats)) (now (s .args .words)) (now (s .args .tree))) (s .args .counts)) at (l .left) (s .pre .0) (l .inv)
-    (at-loop-test .loop-test .taken) _ (at-turn .turn .ensures) (c .before .outcome .given .1)
-
-enum-told : tie.Need-enum-told Inv-loop μ-loop
-enum-told c = search needs
-
-sub-left : tie.Need-sub-left Inv-loop μ-loop
-sub-left c = omega arith
-
-loop-less : tie.Need-loop-less Inv-loop μ-loop
-loop-less c = omega arith
+    let m = last c in
+    let l = looping m in
+    runs-ends (begun l .pre .0) (l .loop .inv) (turning (m .before) .loop-test .taken) (m .turn .ensures) (c .before .outcome .given .1)
 
 loop-again : tie.Need-loop-again Inv-loop μ-loop
 loop-again c =
-    let at-turn = c .before .before .before .before .before .before .before .before .before in
-    let at-loop-test = at-turn .before .before .before .before in
-    let at-loop = at-loop-test .before in
-    let s = at-loop .before .before .before .before .before .before in
-    let l = at-loop .loop in
-    let at = stateOf (workOf (l .floats) (l .words) (l .tree)) (l .counts) in
-    runs-next (now (s .args .plan)) (now (s .args .vertices)) (now (s .args .polygons)) (s .args .task) (s .args .budget)
-    (stateOf (workOf (now (s .args .floats)) (now (s .args .words)) (now (s .args .tree))) (s .args .counts)) at (l .left) (s .pre .0) (l .inv)
-    (at-loop-test .loop-test .taken) _ (at-turn .turn .ensures) (c .enum-told .given .1)
-    (record { floats-long = at-turn .turn .kept .1 .1 .1 .1 .1 .0; words-long = at-turn .turn .kept .1 .1 .1 .1 .1 .1 .0; queue-long = at-turn .turn .kept .1 .1 .1 .1 .1 .1 .1 .0 })
+    let m = turned (c .before .before) in
+    let l = looping m in
+    let kept = m .turn .kept .1 .1 .1 .1 .1 in
+    runs-next (begun l .pre .0) (l .loop .inv) (turning (m .before) .loop-test .taken) (m .turn .ensures) (c .enum-told .given .1)
+    (record { floats-long = kept .0; words-long = kept .1 .0; queue-long = kept .1 .1 .0 })
+
+-- ---- the budget is spent
 
 least-requires : tie.Need-least-requires Inv-loop μ-loop
-least-requires c κs =
-    let at-loop = c .before .before in
-    let s = at-loop .before .before .before .before .before .before in
-    let h = at-loop .loop .inv .sound .sound in
-    omega (arith, h .some, h .taken-in, h .fit .room .queue-room)
-
-same-length-4 : tie.Need-same-length-4 Inv-loop μ-loop
-same-length-4 c = c .before .before .before .before .loop .inv .long .floats-long
-
-same-length-5 : tie.Need-same-length-5 Inv-loop μ-loop
-same-length-5 c = c .before .before .before .before .loop .inv .long .words-long
-
-same-length-6 : tie.Need-same-length-6 Inv-loop μ-loop
-same-length-6 c = c .before .before .before .before .loop .inv .long .queue-long
+least-requires c κs = let h = c .before .before .loop .inv .sound .sound in omega (arith, h .some, h .taken-in, h .fit .room .queue-room)
 
 returns-2 : tie.Need-returns-2 Inv-loop μ-loop
 returns-2 c =
-    let at-loop-test = c .before .before .before in
-    let at-loop = at-loop-test .before in
-    let s = at-loop .before .before .before .before .before .before in
-    let l = at-loop .loop in
-    let at = stateOf (workOf (l .floats) (l .words) (l .tree)) (l .counts) in
-    runs-empty (now (s .args .plan)) (now (s .args .vertices)) (now (s .args .polygons)) (s .args .task) (s .args .budget)
-    (stateOf (workOf (now (s .args .floats)) (now (s .args .words)) (now (s .args .tree))) (s .args .counts)) at (l .left) (s .pre .0) (l .inv)
-    (at-loop-test .loop-test .left)
-    (least-is (now (s .args .plan)) (now (s .args .vertices)) (now (s .args .polygons)) (s .args .task) (l .floats) (l .words) (l .tree) (l .counts) (l .inv .sound)
-    (c .before .least .ensures .1)) (c .if1 .taken)
-
-same-length-7 : tie.Need-same-length-7 Inv-loop μ-loop
-same-length-7 c = c .before .before .before .before .loop .inv .long .floats-long
-
-same-length-8 : tie.Need-same-length-8 Inv-loop μ-loop
-same-length-8 c = c .before .before .before .before .loop .inv .long .words-long
-
-same-length-9 : tie.Need-same-length-9 Inv-loop μ-loop
-same-length-9 c = c .before .before .before .before .loop .inv .long .queue-long
+    let o = spent (c .before) in
+    runs-empty (begun (o .before) .pre .0) (o .before .loop .inv) (o .loop-test .left) (least (c .before)) (c .if1 .taken)
 
 returns-3 : tie.Need-returns-3 Inv-loop μ-loop
 returns-3 c =
-    let at-loop-test = c .before .before .before in
-    let at-loop = at-loop-test .before in
-    let s = at-loop .before .before .before .before .before .before in
-    let l = at-loop .loop in
-    let at = stateOf (workOf (l .floats) (l .words) (l .tree)) (l .counts) in
-    runs-out (now (s .args .plan)) (now (s .args .vertices)) (now (s .args .polygons)) (s .args .task) (s .args .budget)
-    (stateOf (workOf (now (s .args .floats)) (now (s .args .words)) (now (s .args .tree))) (s .args .counts)) at (l .left) (s .pre .0) (l .inv)
-    (at-loop-test .loop-test .left)
-    (least-is (now (s .args .plan)) (now (s .args .vertices)) (now (s .args .polygons)) (s .args .task) (l .floats) (l .words) (l .tree) (l .counts) (l .inv .sound)
-    (c .before .least .ensures .1)) (c .if1 .left)
+    let o = spent (c .before) in
+    runs-out (begun (o .before) .pre .0) (o .before .loop .inv) (o .loop-test .left) (least (c .before)) (c .if1 .left)
 
 pub run-spec : {M : Type 1} → statement M
 run-spec =
@@ -143,23 +94,23 @@ run-spec =
     (tie.spec
     Inv-loop
     μ-loop
-    loop-holds
+    (λ c. runs-begin _ (start c .pre .1 .0))
     turn-requires
-    enum-known-outcome
-    same-length
-    same-length-2
-    same-length-3
+    (λ c. search needs)
+    (λ c. search needs)
+    (λ c. search needs)
+    (λ c. search needs)
     returns
-    enum-told
-    sub-left
-    loop-less
+    (λ c. search needs)
+    (λ c. omega arith)
+    (λ c. omega arith)
     loop-again
     least-requires
-    same-length-4
-    same-length-5
-    same-length-6
+    (λ c. search needs)
+    (λ c. search needs)
+    (λ c. search needs)
     returns-2
-    same-length-7
-    same-length-8
-    same-length-9
+    (λ c. search needs)
+    (λ c. search needs)
+    (λ c. search needs)
     returns-3)
