@@ -3,24 +3,25 @@ use Prim.Native.Nat.{ℕ, suc, _+_, _≤_, _<_}
 use native.Mathlib.Numerals.{add-one}
 use native.Mathlib.Omega.{arith}
 use mathlib.Core.Path.{_≡_, refl, sym, ap, ap₂, _∙_, subst}
-use mathlib.Core.Bool.{Bool, true, false, cond}
+use mathlib.Core.Bool.{Bool, true, false, cond, not}
 use mathlib.Core.List.{List, [], _++_}
+use borrow.Author.Tests.{not-true, not-false}
 use lib.Dec.{eqb}
 use lib.ListN.{length, drop}
 use Rattle.cut.specs.declared.SuccessorType.{SuccessorType}
-use Rattle.walk.specs.declared.Part.{Part}
 use Rattle.walk.specs.declared.Walked.{Walked}
 use Rattle.walk.specs.declared.round.Round.{Round}
 use Rattle.walk.specs.Walk.{partsOf, partAt}
 use Rattle.walk.specs.Round.{successorsOn}
 use Rattle.walk.specs.Turns.{isOverOf, edgeNumberOf, nextOf}
-use Rattle.stored.specs.Stored.{Floor, Polygon, floorIn, recordIn}
+use Rattle.stored.specs.Stored.{Floor, floorIn, recordIn}
+use Rattle.edges.specs.Ground.{Ground}
 use Rattle.route.specs.declared.Step.{Step}
 use Rattle.steps.specs.declared.Permitted.{Permitted}
 use Rattle.steps.specs.declared.Permitted.the-variants.{Yes, No}
 use Rattle.steps.specs.Steps.{andThen, stepOf, stepsOver, stepsFrom}
-use Rattle.going.specs.Going.{walkedOn, beginRound, leftIn, Yielded, Stands, Goes}
-use Rattle.going.proofs.Rounds.{begin-goes, next-goes, edgesLeft, fewer-left}
+use Rattle.going.specs.Going.{walkedOn, beginRound, leftIn, Yielded, Goes}
+use Rattle.going.proofs.Rounds.{on-yields, begin-goes, next-goes, edgesLeft, fewer-left}
 use Rattle.going.proofs.Left.{next-part, no-part, left-begin, left-over, steps-left-next}
 use Rattle.machine.specs.declared.Task.{Task}
 use Rattle.machine.specs.declared.Origin.{Origin}
@@ -77,7 +78,10 @@ module _ (f : Floor) (t : Task) (o : Origin) (was : State) (all : List Step) whe
       pub yet-rest : m .full ≡ false → AsLong (m .state) at → Yet f t o was (m .state) all rest
       yet-rest e long = record {
         fit = subst (λ (x : Making). Fit t (x .state)) (sym made) (each-keeps f t o (Fit t) (λ s step. fit-made t f s o step) some at (y .fit));
-        numbered = subst (λ (x : Making). OnRecord (x .state) (o .node .root) (o .number)) (sym made) (each-keeps f t o (λ s. OnRecord s (o .node .root) (o .number)) (λ s step. on-made-if (o .node .root) (o .number) f t s o (Yes step)) some at (y .numbered));
+        numbered =
+            subst (λ (x : Making). OnRecord (x .state) (o .node .root) (o .number)) (sym made)
+            (each-keeps f t o (λ s. OnRecord s (o .node .root) (o .number)) (λ s step. on-made-if (o .node .root) (o .number) f t s o (Yes step)) some at
+            (y .numbered));
         long = record {
           floats-long = long .floats-long ∙ y .long .floats-long;
           words-long = long .words-long ∙ y .long .words-long;
@@ -91,117 +95,145 @@ module _ (f : Floor) (t : Task) (o : Origin) (was : State) (all : List Step) whe
 abbrev pub onEdge : Floor → Origin → ℕ → Walked → List Step
 onEdge f o edge walked = stepsOver f (o .node) (successorsOn edge (partsOf walked))
 
--- by what the edge and what it yields are
-pub on-edge-as : (f : Floor) (t : Task) (s : State) (o : Origin) {edge is : ℕ} {walked yields : Walked} → edge ≡ is → walked ≡ yields
-    → madeAll f t s o (onEdge f o edge walked) ≡ madeAll f t s o (onEdge f o is yields)
-on-edge-as f t s o e w = ap₂ (λ (i : ℕ) (x : Walked). madeAll f t s o (onEdge f o i x)) e w
-
-pub one-of-three : (walked : Walked) → Yielded walked → (k : ℕ) → k < walked .count → k < 3
-one-of-three walked yielded k l = omega (arith, l, yielded .few)
+pub one-of-three : {walked : Walked} → Yielded walked → (k : ℕ) → k < walked .count → k < 3
+one-of-three yielded k l = omega (arith, l, yielded .few)
 
 -- from the k-th on
 abbrev pub fromPart : Floor → Origin → ℕ → Walked → ℕ → List Step
 fromPart f o edge walked k = stepsOver f (o .node) (successorsOn edge (drop k (partsOf walked)))
 
-module _ (f : Floor) (t : Task) (o : Origin) (edge : ℕ) (walked : Walked) where
-  abbrev over : Part → Permitted
-  over part = stepOf f (o .node) (record { edge = edge; part = part })
+-- those of an edge are made, up to the k-th
+pub record Parts (f : Floor) (t : Task) (o : Origin) (was at : State) (edge : ℕ) (walked : Walked) (k : ℕ) : Type 0 where
+  pub yielded : Yielded walked
+  pub yet : Yet f t o was at (onEdge f o edge walked) (fromPart f o edge walked k)
 
-  from-first : onEdge f o edge walked ≡ fromPart f o edge walked 0
-  from-first = refl
+pub parts-begin : {f : Floor} {t : Task} {o : Origin} {was : State} {edge : ℕ} {walked : Walked} (round : Round) → walked ≡ walkedOn f (o .node) round
+    → Fit t was → OnRecord was (o .node .root) (o .number) → Parts f t o was was edge walked 0
+parts-begin {f} {t} {o} {was} {edge} {walked} round is fit numbered = record {
+  yielded = rw is (on-yields f (o .node) round);
+  yet = yet-all f t o was (onEdge f o edge walked) fit numbered;
+}
+
+module _ {f : Floor} {t : Task} {o : Origin} {was at : State} {edge : ℕ} {walked : Walked} {k : ℕ} (h : Parts f t o was at edge walked k) where
+  abbrev over : Permitted
+  over = stepOf f (o .node) (record { edge = edge; part = partAt (walked .parts) k })
+
+  from-none : walked .count ≤ k → fromPart f o edge walked k ≡ []
+  unfolding stepsOver
+  from-none l = rw (no-part walked (h .yielded) k l)
+
+  -- by what the edge and what it yields are
+  on-edge-as : {is : ℕ} → edge ≡ is → {w : Walked} → walked ≡ w → madeAll f t was o (onEdge f o edge walked) ≡ madeAll f t was o (onEdge f o is w)
+  on-edge-as e y = ap₂ (λ (i : ℕ) (x : Walked). madeAll f t was o (onEdge f o i x)) e y
+
+  pub parts-over : walked .count ≤ k → {is : ℕ} → edge ≡ is → {w : Walked} → walked ≡ w → making at false ≡ madeAll f t was o (onEdge f o is w)
+  parts-over l e y =
+      yet-none f t o was (onEdge f o edge walked) at (yet-same f t o was (onEdge f o edge walked) at (from-none l) (h .yet)) ∙ on-edge-as e y
 
   in-front : (p : Permitted) (rest : List Step) → andThen p rest ≡ andThen p [] ++ rest
   in-front (Yes step) rest = refl
   in-front No rest = refl
 
-  module _ (yielded : Yielded walked) (k : ℕ) where
-    from-next : k < walked .count → fromPart f o edge walked k ≡ andThen (over (partAt (walked .parts) k)) [] ++ fromPart f o edge walked (k + 1)
+  module _ (l : k < walked .count) {m : Making} (made : m ≡ madeIf f t at o over) where
+    abbrev one : List Step
+    one = andThen over []
+
+    from-next : fromPart f o edge walked k ≡ one ++ fromPart f o edge walked (k + 1)
     unfolding stepsOver
-    from-next l = rw (next-part walked yielded k l, add-one k) (in-front (over (partAt (walked .parts) k)) (fromPart f o edge walked (suc k)))
+    from-next = rw (next-part walked (h .yielded) k l, add-one k) (in-front over (fromPart f o edge walked (suc k)))
 
-    from-none : walked .count ≤ k → fromPart f o edge walked k ≡ []
-    unfolding stepsOver
-    from-none l = rw (no-part walked yielded k l)
+    front : Yet f t o was at (onEdge f o edge walked) (one ++ fromPart f o edge walked (k + 1))
+    front = yet-same f t o was (onEdge f o edge walked) at from-next (h .yet)
 
-  module _ (was : State) where
-    pub parts-begin : Fit t was → OnRecord was (o .node .root) (o .number) → Yet f t o was was (onEdge f o edge walked) (fromPart f o edge walked 0)
-    parts-begin fit numbered = yet-same f t o was (onEdge f o edge walked) was from-first (yet-all f t o was (onEdge f o edge walked) fit numbered)
+    made-one : m ≡ madeAll f t at o one
+    made-one = made ∙ made-alone f t o at over
 
-    module _ (yielded : Yielded walked) (at : State) (k : ℕ) (y : Yet f t o was at (onEdge f o edge walked) (fromPart f o edge walked k)) where
-      pub parts-over : walked .count ≤ k → making at false ≡ madeAll f t was o (onEdge f o edge walked)
-      parts-over l = yet-none f t o was (onEdge f o edge walked) at (yet-same f t o was (onEdge f o edge walked) at (from-none yielded k l) y)
+    pub parts-full : m .full ≡ true → {is : ℕ} → edge ≡ is → {w : Walked} → walked ≡ w → m ≡ madeAll f t was o (onEdge f o is w)
+    parts-full full e y = yet-full f t o was (onEdge f o edge walked) at one (fromPart f o edge walked (k + 1)) front m made-one full ∙ on-edge-as e y
 
-      module _ (l : k < walked .count) (m : Making) (made : m ≡ madeIf f t at o (over (partAt (walked .parts) k))) where
-        abbrev one : List Step
-        one = andThen (over (partAt (walked .parts) k)) []
+    pub parts-next : m .full ≡ false → AsLong (m .state) at → Parts f t o was (m .state) edge walked (k + 1)
+    parts-next e long = record {
+      yielded = h .yielded;
+      yet = yet-rest f t o was (onEdge f o edge walked) at one (fromPart f o edge walked (k + 1)) front m made-one e long;
+    }
 
-        front : Yet f t o was at (onEdge f o edge walked) (one ++ fromPart f o edge walked (k + 1))
-        front = yet-same f t o was (onEdge f o edge walked) at (from-next yielded k l) y
-
-        made-one : m ≡ madeAll f t at o one
-        made-one = made ∙ made-alone f t o at (over (partAt (walked .parts) k))
-
-        pub parts-full : m .full ≡ true → m ≡ madeAll f t was o (onEdge f o edge walked)
-        parts-full e = yet-full f t o was (onEdge f o edge walked) at one (fromPart f o edge walked (k + 1)) front m made-one e
-
-        pub parts-next : m .full ≡ false → AsLong (m .state) at → Yet f t o was (m .state) (onEdge f o edge walked) (fromPart f o edge walked (k + 1))
-        parts-next e long = yet-rest f t o was (onEdge f o edge walked) at one (fromPart f o edge walked (k + 1)) front m made-one e long
+-- the round behind it
+pub next-as : (round : Round) {walked w : Walked} {next : Round} → next ≡ nextOf round (walked .kind) → walked ≡ w → next ≡ nextOf round (w .kind)
+next-as round e y = e ∙ ap (λ (x : Walked). nextOf round (x .kind)) y
 
 -- ---- the edges of a polygon
 
-pub record Loops (plan vs ps : List ℕ) (t : Task) (o : Origin) (was at : State) (round : Round) : Type 0 where
-  pub goes : Goes (recordIn plan ps (o .node .polygon)) (o .node) round
-  pub yet : Yet (floorIn plan vs ps) t o was at (stepsFrom (floorIn plan vs ps) (t .trip .to) (o .node)) (stepsOver (floorIn plan vs ps) (o .node) (leftIn (floorIn plan vs ps) (o .node) round))
+-- over the edges that were not walked yet
+abbrev pub yetTo : Floor → Origin → Round → List Step
+yetTo f o round = stepsOver f (o .node) (leftIn f (o .node) round)
 
-module _ (plan vs ps : List ℕ) (t : Task) (o : Origin) (h : Stands plan vs ps (o .node)) where
+pub record Loops (plan vs ps : List ℕ) (t : Task) (o : Origin) (was at : State) (round : Round) : Type 0 where
+  pub ground : Ground plan vs ps
+  pub leaves : Leaves plan vs ps was o
+  pub goes : Goes (recordIn plan ps (o .node .polygon)) (o .node) round
+  pub yet : let f = floorIn plan vs ps in Yet f t o was at (stepsFrom f (t .trip .to) (o .node)) (yetTo f o round)
+
+pub loops-begin : {plan vs ps : List ℕ} {t : Task} {o : Origin} {was : State} → Ground plan vs ps → Leaves plan vs ps was o → Fit t was
+    → eqb (o .node .polygon) (t .trip .to) ≡ false
+    → {round : Round} → round ≡ beginRound (recordIn plan ps (o .node .polygon)) (o .node) → Loops plan vs ps t o was was round
+unfolding stepsFrom
+loops-begin {plan} {vs} {ps} {t} {o} {was} g h fit e {round} b =
+    let f = floorIn plan vs ps in
+    let all = stepsFrom f (t .trip .to) (o .node) in
+    let first : all ≡ yetTo f o (beginRound (recordIn plan ps (o .node .polygon)) (o .node)) = rw (e, left-begin plan vs ps (o .node) (h .stands)) in
+    subst (Loops plan vs ps t o was was) (sym b)
+    (record {
+      ground = g;
+      leaves = h;
+      goes = begin-goes plan vs ps (o .node) (h .stands);
+      yet = yet-same f t o was all was first (yet-all f t o was all fit (h .leaving .on-record));
+    })
+
+module _ {plan vs ps : List ℕ} {t : Task} {o : Origin} {was at : State} {round : Round} (l : Loops plan vs ps t o was at round) where
   abbrev f : Floor
   f = floorIn plan vs ps
-
-  abbrev its : Polygon
-  its = recordIn plan ps (o .node .polygon)
 
   abbrev all : List Step
   all = stepsFrom f (t .trip .to) (o .node)
 
-  -- over the edges that were not walked yet
-  abbrev yetTo : Round → List Step
-  yetTo round = stepsOver f (o .node) (leftIn f (o .node) round)
-
-  all-first : eqb (o .node .polygon) (t .trip .to) ≡ false → all ≡ yetTo (beginRound its (o .node))
-  unfolding stepsFrom
-  all-first e = rw (e, left-begin plan vs ps (o .node) h)
-
-  none-over : (round : Round) → isOverOf round ≡ true → yetTo round ≡ []
+  none-over : isOverOf round ≡ true → yetTo f o round ≡ []
   unfolding stepsOver
-  none-over round over = rw (left-over plan vs ps (o .node) h round over)
+  none-over over = rw (left-over plan vs ps (o .node) (l .leaves .stands) round over)
 
-  pub loops-begin : (was : State) → Fit t was → OnRecord was (o .node .root) (o .number) → eqb (o .node .polygon) (t .trip .to) ≡ false → {round : Round} → round ≡ beginRound its (o .node) → Loops plan vs ps t o was was round
-  loops-begin was fit numbered e {round} b =
-      subst (Loops plan vs ps t o was was) (sym b)
-      (record {
-        goes = begin-goes plan vs ps (o .node) h;
-        yet = yet-same f t o was all was (all-first e) (yet-all f t o was all fit numbered);
-      })
+  pub loops-over : {over : Bool} → over ≡ isOverOf round → not over ≡ false → making at false ≡ madeAll f t was o all
+  loops-over {over} asked e = yet-none f t o was all at (yet-same f t o was all at (none-over (sym asked ∙ not-false over e)) (l .yet))
 
-  module _ (was at : State) (round : Round) (l : Loops plan vs ps t o was at round) where
-    pub loops-over : isOverOf round ≡ true → making at false ≡ madeAll f t was o all
-    loops-over over = yet-none f t o was all at (yet-same f t o was all at (none-over round over) (l .yet))
+  module _ {over : Bool} (asked : over ≡ isOverOf round) (e : not over ≡ true) where
+    on : isOverOf round ≡ false
+    on = sym asked ∙ not-true over e
 
-    module _ (on : isOverOf round ≡ false) (walked : Walked) (edge : ℕ) (is : walked ≡ walkedOn f (o .node) round) (number : edge ≡ edgeNumberOf round) where
-      edge-first : yetTo round ≡ onEdge f o edge walked ++ yetTo (nextOf round (walked .kind))
-      edge-first = rw (is, number) (steps-left-next plan vs ps (o .node) h round (l .goes) on)
+    -- what the round's edge yields, and what comes behind it
+    abbrev walked : Walked
+    walked = walkedOn f (o .node) round
 
-      module _ (m : Making) (made : m ≡ madeAll f t at o (onEdge f o edge walked)) where
-        pub loops-full : m .full ≡ true → m ≡ madeAll f t was o all
-        loops-full e = yet-full f t o was all at (onEdge f o edge walked) (yetTo (nextOf round (walked .kind))) (yet-same f t o was all at edge-first (l .yet)) m made e
+    abbrev this : List Step
+    this = onEdge f o (edgeNumberOf round) walked
 
-        pub loops-next : m .full ≡ false → AsLong (m .state) at → {next : Round} → next ≡ nextOf round (walked .kind) → Loops plan vs ps t o was (m .state) next
-        loops-next e long {next} n =
-            subst (Loops plan vs ps t o was (m .state)) (sym n)
-            (record {
-              goes = next-goes plan vs ps (o .node) h round (l .goes) on (walked .kind);
-              yet = yet-rest f t o was all at (onEdge f o edge walked) (yetTo (nextOf round (walked .kind))) (yet-same f t o was all at edge-first (l .yet)) m made e long;
-            })
+    abbrev rest : List Step
+    rest = yetTo f o (nextOf round (walked .kind))
 
-    pub loops-less : isOverOf round ≡ false → (kind : SuccessorType) {next : Round} → next ≡ nextOf round kind → edgesLeft next < edgesLeft round
-    loops-less on kind {next} n = subst (λ (x : Round). edgesLeft x < edgesLeft round) (sym n) (fewer-left plan vs ps (o .node) h round (l .goes) on kind)
+    edge-first : Yet f t o was at all (this ++ rest)
+    edge-first = yet-same f t o was all at (steps-left-next plan vs ps (o .node) (l .leaves .stands) round (l .goes) on) (l .yet)
+
+    module _ {m : Making} (made : m ≡ madeAll f t at o this) where
+      pub loops-full : m .full ≡ true → m ≡ madeAll f t was o all
+      loops-full e = yet-full f t o was all at this rest edge-first m made e
+
+      pub loops-next : m .full ≡ false → AsLong (m .state) at → {next : Round} → next ≡ nextOf round (walked .kind) → Loops plan vs ps t o was (m .state) next
+      loops-next e long {next} n =
+          subst (Loops plan vs ps t o was (m .state)) (sym n)
+          (record {
+            ground = l .ground;
+            leaves = l .leaves;
+            goes = next-goes plan vs ps (o .node) (l .leaves .stands) round (l .goes) on (walked .kind);
+            yet = yet-rest f t o was all at this rest edge-first m made e long;
+          })
+
+    pub loops-less : (kind : SuccessorType) {next : Round} → next ≡ nextOf round kind → edgesLeft next < edgesLeft round
+    loops-less kind n =
+        subst (λ (x : Round). edgesLeft x < edgesLeft round) (sym n) (fewer-left plan vs ps (o .node) (l .leaves .stands) round (l .goes) on kind)

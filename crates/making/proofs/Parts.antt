@@ -18,7 +18,8 @@ unlessFull m more = cond (m .full) m more
 module _ (f : Floor) (t : Task) (o : Origin) where
   -- ---- a step that may not be permitted
 
-  pub made-by-step : (s : State) {step : Step} {m : Making} → m ≡ made (f .vertices) t s o step → {p q : Permitted} → p ≡ Yes step → p ≡ q → m ≡ madeIf f t s o q
+  pub made-by-step : (s : State) {step : Step} {m : Making} → m ≡ made (f .vertices) t s o step → {p q : Permitted} → p ≡ Yes step → p ≡ q
+      → m ≡ madeIf f t s o q
   made-by-step s e {p} {q} y x = e ∙ ap (madeIf f t s o) (sym y ∙ x)
 
   pub made-by-none : (s : State) {p q : Permitted} → p ≡ No → p ≡ q → making s false ≡ madeIf f t s o q
@@ -56,10 +57,11 @@ module _ (f : Floor) (t : Task) (o : Origin) where
       go false b e = e
 
   -- what each step keeps, all of them keep
-  pub each-keeps : (P : State → Type 0) → ((s : State) (step : Step) → P s → P (made (f .vertices) t s o step .state)) → (steps : List Step) (s : State) → P s → P (madeAll f t s o steps .state)
+  pub each-keeps : (P : State → Type 0) → ((s : State) (step : Step) → P s → P (made (f .vertices) t s o step .state)) → (steps : List Step) (s : State)
+      → P s → P (madeAll f t s o steps .state)
   unfolding madeAll
   each-keeps P keeps [] s h = h
-  each-keeps P keeps (step ∷ steps) s h = go (made (f .vertices) t s o step .full) (keeps s step h) (each-keeps P keeps steps (made (f .vertices) t s o step .state) (keeps s step h))
+  each-keeps P keeps (step ∷ steps) s h = go (m .full) (keeps s step h) (each-keeps P keeps steps (m .state) (keeps s step h))
     where
       m : Making
       m = made (f .vertices) t s o step

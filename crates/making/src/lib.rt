@@ -72,10 +72,14 @@ fn keep(
     floats: &mut [f32],
     tree: &mut [u32],
 ) -> Counts
-    requires { ⌜ (task .places * 11 ≤ length (now floats)) × (2 * task .places ≤ length (now tree)) × (task .places ≤ 4096) × (i < task .places) × (counts .records < task .places) ⌝ }
+    requires { let n = task .places in
+        ⌜ (n * 11 ≤ length (now floats)) × (2 * n ≤ length (now tree)) × (n ≤ 4096) × (i < n) × (counts .records < n) ⌝ }
     requires { ⌜ r ≡ recordFor (now floats) (counts .records) (node .root) ⌝ }
     requires { ⌜ Tree (column (now floats) 11 7) (task .places) (queuedIn (task .places) (now tree)) (now tree) ⌝ }
-    ensures { λ r. ⌜ ((ws : List ℕ) → stateOf (workOf (now (floats .exit)) ws (now (tree .exit))) r ≡ kept (task .places) (stateOf (workOf (now (floats .entry)) ws (now (tree .entry))) counts) i node) ⌝ }
+    ensures { λ r.
+        ⌜ ((ws : List ℕ) →
+        stateOf (workOf (now (floats .exit)) ws (now (tree .exit))) r
+        ≡ kept (task .places) (stateOf (workOf (now (floats .entry)) ws (now (tree .entry))) counts) i node) ⌝ }
 {
     let records = counts.records;
     let distance = node.length;
@@ -109,8 +113,12 @@ fn take(
     tree: &mut [u32],
 ) -> Counts
     requires { ⌜ Fit task (stateOf (workOf (now floats) (now words) (now tree)) counts) ⌝ }
-    requires { ⌜ (counts .taken < task .places) × (from .place ≤ 4096) × (from .depth ≤ 4096) × OnRecord (stateOf (workOf (now floats) (now words) (now tree)) counts) (from .node .root) (from .number) ⌝ }
-    ensures { λ r. ⌜ stateOf (workOf (now (floats .exit)) (now (words .exit)) (now (tree .exit))) r ≡ taken (task .places) (stateOf (workOf (now (floats .entry)) (now (words .entry)) (now (tree .entry))) counts) from kind node f ⌝ }
+    requires { let before = stateOf (workOf (now floats) (now words) (now tree)) counts in
+        ⌜ (counts .taken < task .places) × (from .place ≤ 4096) × (from .depth ≤ 4096) × OnRecord before (from .node .root) (from .number) ⌝ }
+    ensures { λ r.
+        let before = stateOf (workOf (now (floats .entry)) (now (words .entry)) (now (tree .entry))) counts in
+        let after = stateOf (workOf (now (floats .exit)) (now (words .exit)) (now (tree .exit))) r in
+        ⌜ after ≡ taken (task .places) before from kind node f ⌝ }
 {
     let i = counts.taken;
     let old = from.node;
@@ -147,7 +155,10 @@ fn make(
     requires { ⌜ Fit task (stateOf (workOf (now floats) (now words) (now tree)) counts) ⌝ }
     requires { ⌜ Leaving (stateOf (workOf (now floats) (now words) (now tree)) counts) from ⌝ }
     requires { ⌜ (from .node .first < length (now vertices) / 8) × (from .node .second < length (now vertices) / 8) ⌝ }
-    ensures { λ r. let before = stateOf (workOf (now (floats .entry)) (now (words .entry)) (now (tree .entry))) counts in let after = stateOf (workOf (now (floats .exit)) (now (words .exit)) (now (tree .exit))) (r .counts) in ⌜ making after (r .full) ≡ made (verticesOf (now (vertices .entry))) task before from step ⌝ }
+    ensures { λ r.
+        let before = stateOf (workOf (now (floats .entry)) (now (words .entry)) (now (tree .entry))) counts in
+        let after = stateOf (workOf (now (floats .exit)) (now (words .exit)) (now (tree .exit))) (r .counts) in
+        ⌜ making after (r .full) ≡ made (verticesOf (now (vertices .entry))) task before from step ⌝ }
 {
     let old = from.node;
     let node = old.enter(vertices, step);
@@ -204,7 +215,11 @@ fn make_part(
     requires { ⌜ Leaves (now plan) (now vertices) (now polygons) (stateOf (workOf (now floats) (now words) (now tree)) counts) from ⌝ }
     requires { ⌜ Ground (now plan) (now vertices) (now polygons) × (successor .edge < slotsIn (now plan)) ⌝ }
     requires { ⌜ view ≡ viewOf (verticesOf (now vertices)) (isMarked (now plan)) (from .node) ⌝ }
-    ensures { λ r. let f = floorIn (now (plan .entry)) (now (vertices .entry)) (now (polygons .entry)) in let before = stateOf (workOf (now (floats .entry)) (now (words .entry)) (now (tree .entry))) counts in let after = stateOf (workOf (now (floats .exit)) (now (words .exit)) (now (tree .exit))) (r .counts) in ⌜ making after (r .full) ≡ madeIf f task before from (stepOf f (from .node) successor) ⌝ }
+    ensures { λ r.
+        let f = floorIn (now (plan .entry)) (now (vertices .entry)) (now (polygons .entry)) in
+        let before = stateOf (workOf (now (floats .entry)) (now (words .entry)) (now (tree .entry))) counts in
+        let after = stateOf (workOf (now (floats .exit)) (now (words .exit)) (now (tree .exit))) (r .counts) in
+        ⌜ making after (r .full) ≡ madeIf f task before from (stepOf f (from .node) successor) ⌝ }
 {
     match view.step(polygons, plan, successor) {
         Permitted::Yes(step) => make(vertices, task, counts, from, step, floats, words, tree),
@@ -234,8 +249,15 @@ fn make_edge(
     requires { ⌜ Leaves (now plan) (now vertices) (now polygons) (stateOf (workOf (now floats) (now words) (now tree)) counts) from ⌝ }
     requires { ⌜ Ground (now plan) (now vertices) (now polygons) × (view ≡ viewOf (verticesOf (now vertices)) (isMarked (now plan)) (from .node)) ⌝ }
     requires { ⌜ Goes (recordIn (now plan) (now polygons) (from .node .polygon)) (from .node) round × (isOverOf round ≡ false) ⌝ }
-    ensures { λ r. let f = floorIn (now (plan .entry)) (now (vertices .entry)) (now (polygons .entry)) in let before = stateOf (workOf (now (floats .entry)) (now (words .entry)) (now (tree .entry))) counts in let after = stateOf (workOf (now (floats .exit)) (now (words .exit)) (now (tree .exit))) (r .counts) in ⌜ making after (r .full) ≡ madeAll f task before from (stepsOver f (from .node) (successorsOn (edgeNumberOf round) (partsOf (walkedOn f (from .node) round)))) ⌝ }
-    ensures { λ r. let f = floorIn (now (plan .entry)) (now (vertices .entry)) (now (polygons .entry)) in ⌜ r .next ≡ nextOf round (walkedOn f (from .node) round .kind) ⌝ }
+    ensures { λ r.
+        let f = floorIn (now (plan .entry)) (now (vertices .entry)) (now (polygons .entry)) in
+        let before = stateOf (workOf (now (floats .entry)) (now (words .entry)) (now (tree .entry))) counts in
+        let after = stateOf (workOf (now (floats .exit)) (now (words .exit)) (now (tree .exit))) (r .counts) in
+        let parts = partsOf (walkedOn f (from .node) round) in
+        ⌜ making after (r .full) ≡ madeAll f task before from (stepsOver f (from .node) (successorsOn (edgeNumberOf round) parts)) ⌝ }
+    ensures { λ r.
+        let f = floorIn (now (plan .entry)) (now (vertices .entry)) (now (polygons .entry)) in
+        ⌜ r .next ≡ nextOf round (walkedOn f (from .node) round .kind) ⌝ }
 {
     let node = from.node;
     let edge = round.edge();
@@ -289,7 +311,11 @@ pub fn make_steps(
     requires { ⌜ Fit task (stateOf (workOf (now floats) (now words) (now tree)) counts) ⌝ }
     requires { ⌜ Leaves (now plan) (now vertices) (now polygons) (stateOf (workOf (now floats) (now words) (now tree)) counts) from ⌝ }
     requires { ⌜ Ground (now plan) (now vertices) (now polygons) × (eqb (from .node .polygon) (task .trip .to) ≡ false) ⌝ }
-    ensures { λ r. let f = floorIn (now (plan .entry)) (now (vertices .entry)) (now (polygons .entry)) in let before = stateOf (workOf (now (floats .entry)) (now (words .entry)) (now (tree .entry))) counts in let after = stateOf (workOf (now (floats .exit)) (now (words .exit)) (now (tree .exit))) (r .counts) in ⌜ making after (r .full) ≡ madeAll f task before from (stepsFrom f (task .trip .to) (from .node)) ⌝ }
+    ensures { λ r.
+        let f = floorIn (now (plan .entry)) (now (vertices .entry)) (now (polygons .entry)) in
+        let before = stateOf (workOf (now (floats .entry)) (now (words .entry)) (now (tree .entry))) counts in
+        let after = stateOf (workOf (now (floats .exit)) (now (words .exit)) (now (tree .exit))) (r .counts) in
+        ⌜ making after (r .full) ≡ madeAll f task before from (stepsFrom f (task .trip .to) (from .node)) ⌝ }
 {
     let node = from.node;
     let view = View::new(vertices, plan, node);

@@ -1,76 +1,59 @@
 -- `making::keep` meets its contract. Assumes nothing.
 use borrow.Author.Needs.{needs}
-use denote.Ref.{now}
 use Rattle.machine.specs.Search.{tookRecord}
-use native.Mathlib.Omega.{arith}
-use Rattle.places.proofs.Records.{record-for-le}
-use Rattle.making.proofs.Keeping.{keeps-none, keeps-record, keeps-new, tree-on-distance, tree-on-record}
+use Rattle.making.proofs.Keeping.{keeps-none, keeps-record, keeps-new, record-row, tree-on-distance, tree-on-record}
 use Rattle.making.proofs.keep.Statement.{statement}
 use Rattle.making.proofs.keep.Tie as tie
 
-returns : tie.Need-returns
-returns c =
-    let at-if1 = c .before .before .before in
-    let s = at-if1 .before .before .before in
-    λ ws. keeps-none (s .args .task .places) (now (s .args .floats)) ws (now (s .args .tree)) (s .args .counts) (s .args .i) (s .args .node) (s .pre .1 .0)
-    (at-if1 .if1 .taken) (rw (← c .before .record-distance .ensures) (c .if2 .taken))
+-- ---- places, the first first
+
+abbrev start : tie.After-slice-known2 → tie.Start
+start c = c .before .before
+
+-- the root has a record
+abbrev found : tie.After-record-distance → tie.Then1
+found c = c .before .before
+
+abbrev begun : tie.After-record-distance → tie.Start
+begun c = start (found c .before)
+
+-- whose distance is put
+abbrev kept : tie.After-put-distance → tie.Else2
+kept c = c .before .before
+
+abbrev distance : tie.After-push-arg2 → tie.After-put-distance
+distance c = c .before .before .before .before
+
+-- or it gets one
+abbrev unfound : tie.After-put-record → tie.Else1
+unfound c = c .before .before
+
+abbrev new : tie.After-push-arg4 → tie.After-put-record
+new c = c .before .before .before .before
+
+-- ---- the needs
 
 push-requires : tie.Need-push-requires
 push-requires c κs =
-    let at-put-distance = c .before .before .before .before in
-    let s = at-put-distance .before .before .before .before .before .before .before .before in (
-      search needs,
-      (
-        search needs,
-        (
-          search needs,
-          tree-on-distance (s .args .task .places) (s .pre .0 .2) (now (s .args .floats)) (now (s .args .tree)) (s .pre .1 .1) (s .args .r)
-              (s .args .node .length) (at-put-distance .put-distance .ensures),
-        ),
-      ),
-    )
+    let s = begun (kept (distance c) .before) in
+    (search needs, (search needs, (search needs, tree-on-distance _ (s .pre .0 .2) _ _ (s .pre .1 .1) _ _ (distance c .put-distance .ensures))))
 
 returns-2 : tie.Need-returns-2
 returns-2 c =
-    let at-push = c .before .before in
-    let at-put-distance = at-push .before .before .before .before .before in
-    let at-if2 = at-put-distance .before .before in
-    let at-record-distance = at-if2 .before in
-    let at-if1 = at-record-distance .before .before in
-    let s = at-if1 .before .before .before in
-    λ ws. keeps-record (s .args .task .places) (now (s .args .floats)) ws (now (s .args .tree)) (s .args .counts) (s .args .i) (s .args .node) (s .pre .1 .0)
-    (at-if1 .if1 .taken) (rw (← at-record-distance .record-distance .ensures) (at-if2 .if2 .left)) (at-put-distance .put-distance .ensures)
-    (at-push .push .ensures)
-
-put-record-requires : tie.Need-put-record-requires
-put-record-requires c κs =
-    let s = c .before .before .before .before in
-    omega (arith, record-for-le (now (s .args .floats)) (s .args .counts .records) (s .args .node .root), s .pre .1 .0, s .pre .0)
-
-push-requires-2 : tie.Need-push-requires-2
-push-requires-2 c κs =
-    let at-put-record = c .before .before .before .before in
-    let s = at-put-record .before .before .before .before .before in (
-      search needs,
-      (
-        search needs,
-        (
-          search needs,
-          tree-on-record (s .args .task .places) (s .pre .0 .2) (now (s .args .floats)) (now (s .args .tree)) (s .pre .1 .1) (s .args .r)
-              (s .args .node .root) (s .args .node .length) (at-put-record .put-record .ensures),
-        ),
-      ),
-    )
+    let p = c .before .before in
+    let d = distance (p .before) in
+    let k = kept d in
+    let r = k .before in
+    λ ws. keeps-record _ _ _ _ (begun r .pre .1 .0) (found r .if1 .taken) (r .record-distance .ensures) (k .if2 .left) (d .put-distance .ensures)
+    (p .push .ensures)
 
 returns-3 : tie.Need-returns-3
 unfolding tookRecord
 returns-3 c =
-    let at-push2 = c .before .before in
-    let at-put-record = at-push2 .before .before .before .before .before in
-    let at-if1 = at-put-record .before .before in
-    let s = at-if1 .before .before .before in
-    λ ws. keeps-new (s .args .task .places) (now (s .args .floats)) ws (now (s .args .tree)) (s .args .counts) (s .args .i) (s .args .node) (s .pre .1 .0)
-    (at-if1 .if1 .left) (at-put-record .put-record .ensures) (at-push2 .push2 .ensures)
+    let p = c .before .before in
+    let n = new (p .before) in
+    let u = unfound n in
+    λ ws. keeps-new _ _ _ _ (start (u .before) .pre .1 .0) (u .if1 .left) (n .put-record .ensures) (p .push2 .ensures)
 
 pub keep-spec : {M : Type 1} → statement M
 keep-spec =
@@ -78,14 +61,14 @@ keep-spec =
     (tie.spec
     (λ c κs. search needs)
     (λ c. search needs)
-    returns
+    (λ c. λ ws. search (needs, keeps-none))
     (λ c κs. search needs)
     push-requires
     (λ c. search needs)
     (λ c. search needs)
     returns-2
-    put-record-requires
-    push-requires-2
+    (λ c κs. search (needs, record-row))
+    (λ c κs. (search needs, (search needs, (search needs, search (needs, tree-on-record)))))
     (λ c. search needs)
     (λ c. search needs)
     (λ c. search needs)

@@ -12,51 +12,55 @@ use Rattle.making.proofs.Parts.{made-by-step, made-by-none}
 use Rattle.making.proofs.make_part.Statement.{statement}
 use Rattle.making.proofs.make_part.Tie as tie
 
--- ---- places
+-- ---- places, the first first
 
-abbrev start : tie.After-step → tie.Start
-start c = c .before .before .before .before .before .before
+abbrev start : tie.After-slice-known3 → tie.Start
+start c = c .before .before .before .before .before
 
-abbrev was : tie.After-step → State
-was c = let s = start c in stateOf (workOf (now (s .args .floats)) (now (s .args .words)) (now (s .args .tree))) (s .args .counts)
+abbrev begun : tie.After-step → tie.Start
+begun c = start (c .before)
 
-abbrev floor : tie.After-step → Floor
-floor c = let s = start c in floorIn (now (s .args .plan)) (now (s .args .vertices)) (now (s .args .polygons))
+abbrev was : tie.Start → State
+was s = stateOf (workOf (now (s .args .floats)) (now (s .args .words)) (now (s .args .tree))) (s .args .counts)
+
+abbrev floor : tie.Start → Floor
+floor s = floorIn (now (s .args .plan)) (now (s .args .vertices)) (now (s .args .polygons))
+
+-- it is permitted
+abbrev yes : tie.After-make-arg3 → tie.After-step2
+yes c = c .before .before .before .before
+
+abbrev stepped : tie.After-step2 → tie.After-step
+stepped c = c .before .before
 
 -- the step is document 01's
-permitted : (c : tie.After-step) → c .step .result ≡ stepOf (floor c) (start c .args .from .node) (start c .args .successor)
+permitted : (c : tie.After-step) → let s = begun c in c .step .result ≡ stepOf (floor s) (s .args .from .node) (s .args .successor)
 permitted c =
-    let s = start c in
+    let s = begun c in
     step-on _ _ _ (s .args .from .node) (s .pre .1 .0 .stands) (s .pre .1 .1 .0 .0) (s .args .view) (s .pre .1 .1 .1) (s .args .successor) _ (c .step .ensures)
 
-step-requires : tie.Need-step-requires
-step-requires c κs =
-    let s = c .before .before .before .before .before in
-    (viewed-lies _ _ _ (s .args .from .node) (s .pre .1 .0 .stands) (s .pre .1 .1 .0 .0) (s .args .view) (s .pre .1 .1 .1), s .pre .1 .1 .0 .1)
+-- ---- the needs
 
 make-requires : tie.Need-make-requires
-make-requires c κs =
-    let s = start (c .before .before .before .before .before .before) in
-    let counted = s .pre .1 .1 .0 .0 .vertices-planned .counted in
-    let stands = s .pre .1 .0 .stands in
-    (s .pre .0, (s .pre .1 .0 .leaving, (omega (arith, counted, stands .first-listed), omega (arith, counted, stands .second-listed))))
+make-requires c κs = let pre = begun (stepped (yes c)) .pre in (search needs, (search needs, (omega (arith, pre), omega (arith, pre))))
 
 returns : tie.Need-returns
 returns c =
-    let at-make = c .before .before .before .before .before .before in
-    let at-step2 = at-make .before .before .before .before .before in
-    let at-step = at-step2 .before .before in
-    let s = start at-step in
-    made-by-step (floor at-step) (s .args .task) (s .args .from) (was at-step) (at-make .make .ensures) (at-step2 .step2 .given .1) (permitted at-step)
-
-returns-2 : tie.Need-returns-2
-returns-2 c =
-    let at-step = c .before .before in
-    let s = start at-step in
-    made-by-none (floor at-step) (s .args .task) (s .args .from) (was at-step) (c .enum-told .given .1) (permitted at-step)
+    let m = c .before .before .before .before .before .before in
+    let y = yes (m .before) in
+    let s = begun (stepped y) in
+    made-by-step (floor s) (s .args .task) (s .args .from) (was s) (m .make .ensures) (y .step2 .given .1) (permitted (stepped y))
 
 pub make-part-spec : {M : Type 1} → statement M
 make-part-spec =
     tie.close
-    (tie.spec step-requires (λ c. search needs) make-requires (λ c. search needs) (λ c. search needs) (λ c. search needs) (λ c. search needs)
-    returns returns-2)
+    (tie.spec
+    (λ c κs. search (needs, viewed-lies))
+    (λ c. search needs)
+    make-requires
+    (λ c. search needs)
+    (λ c. search needs)
+    (λ c. search needs)
+    (λ c. search needs)
+    returns
+    (λ c. search (needs, made-by-none, step-on)))
