@@ -26,7 +26,8 @@ module _ (q : Polygon) where
   unfolding cornerCount
   behind-is-unused = go (decLt (first (length (q .corners)) (λ i. eqb (corner q i) unused)) (length (q .corners)))
     where
-      go : Dec (first (length (q .corners)) (λ i. eqb (corner q i) unused) < length (q .corners)) → eqb (corner q (first (length (q .corners)) (λ i. eqb (corner q i) unused))) unused ≡ true
+      go : Dec (first (length (q .corners)) (λ i. eqb (corner q i) unused) < length (q .corners))
+          → eqb (corner q (first (length (q .corners)) (λ i. eqb (corner q i) unused))) unused ≡ true
       go (yes l) = first-at (length (q .corners)) (λ i. eqb (corner q i) unused) l
       go (no l) = eq-eqb _ _ (slot-past _ (omega arith))
 

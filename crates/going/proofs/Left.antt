@@ -30,7 +30,8 @@ use Rattle.route.specs.declared.Step.{Step}
 use Rattle.steps.specs.Steps.{wholeEdge, wholeEdges, entryOf, successorsIn, candidates, stepOf, andThen, stepsOver}
 use Rattle.going.specs.Going.{wholeOf, walkBy, entryFor, countFor, beginRound, walkedAt, walkedOn, partsOver, leftIn, Yielded, Stands, Goes}
 use Rattle.going.proofs.Corners.{edge-in-list, as-many-corners, from, table-is-from}
-use Rattle.going.proofs.Rounds.{by-seed, walk-of-seed, walk-of-node, its-polygon, entry-of-seed, entry-of-node, count-of-seed, count-of-node, more-than-taken}
+use Rattle.going.proofs.Rounds.{by-seed, walk-of-seed, walk-of-node, its-polygon, entry-of-seed, entry-of-node, count-of-seed, count-of-node}
+use Rattle.going.proofs.Rounds.{more-than-taken}
 
 -- ---- the parts of one edge, one after the other
 
@@ -70,16 +71,21 @@ module _ (plan vs ps : List ℕ) (node : Node) (h : Stands plan vs ps node) wher
 
   -- what the round's edge yields comes first in what is left
   pub left-next : (round : Round) → Goes its node round → isOverOf round ≡ false
-      → leftIn f node round ≡ successorsOn (edgeNumberOf round) (partsOf (walkedOn f node round)) ++ leftIn f node (nextOf round (walkedOn f node round .kind))
+      → leftIn f node round ≡ successorsOn (edgeNumberOf round) (partsOf (walkedOn f node round))
+      ++ leftIn f node (nextOf round (walkedOn f node round .kind))
   unfolding leftIn walkedOn walkedAt edgeNumberOf nextOf edgesFrom partsOver
   left-next round goes on =
-      let e : round .count - 1 - round .taken ≡ suc (round .count - 1 - (round .taken + 1)) = omega (arith, more-than-taken plan vs ps node h round goes on) in
+      let e : round .count - 1 - round .taken ≡ suc (round .count - 1 - (round .taken + 1)) =
+      omega (arith, more-than-taken plan vs ps node h round goes on) in
       rw (e, add-one (round .taken))
 
   pub steps-left-next : (round : Round) → Goes its node round → isOverOf round ≡ false
-      → stepsOver f node (leftIn f node round) ≡ stepsOver f node (successorsOn (edgeNumberOf round) (partsOf (walkedOn f node round))) ++ stepsOver f node (leftIn f node (nextOf round (walkedOn f node round .kind)))
+      → stepsOver f node (leftIn f node round) ≡ stepsOver f node (successorsOn (edgeNumberOf round) (partsOf (walkedOn f node round)))
+      ++ stepsOver f node (leftIn f node (nextOf round (walkedOn f node round .kind)))
   steps-left-next round goes on =
-      ap (stepsOver f node) (left-next round goes on) ∙ steps-over-both f node (successorsOn (edgeNumberOf round) (partsOf (walkedOn f node round))) (leftIn f node (nextOf round (walkedOn f node round .kind)))
+      ap (stepsOver f node) (left-next round goes on)
+      ∙ steps-over-both f node (successorsOn (edgeNumberOf round) (partsOf (walkedOn f node round)))
+      (leftIn f node (nextOf round (walkedOn f node round .kind)))
 
   -- when the walk is over, none
   pub left-over : (round : Round) → isOverOf round ≡ true → leftIn f node round ≡ []
@@ -111,7 +117,13 @@ module _ (plan vs ps : List ℕ) (node : Node) (h : Stands plan vs ps node) wher
       let j = afterEntry n entry i in
       let its = edge-in-list f (node .polygon) j (another n entry l i (omega arith) .0) in
       let walk = walkEdgeOf (node .root) (node .interval) (edgeOf corners j) kind in
-      rw (walk-of-node node (edge f (node .polygon) j) kind e, its, array-holds-the-parts (node .root) (node .interval) (edgeOf corners j) kind, kind-is-the-walk's (node .root) (node .interval) (edgeOf corners j) kind, node-parts e entry l (walk .kind) (suc i) k (omega arith))
+      rw (
+        walk-of-node node (edge f (node .polygon) j) kind e,
+        its,
+        array-holds-the-parts (node .root) (node .interval) (edgeOf corners j) kind,
+        kind-is-the-walk's (node .root) (node .interval) (edgeOf corners j) kind,
+        node-parts e entry l (walk .kind) (suc i) k (omega arith),
+      )
 
   -- the seed's: every edge whole
   seed-edge : (i : ℕ) → afterEntry (n + 1) n i ≡ i
@@ -133,11 +145,14 @@ module _ (plan vs ps : List ℕ) (node : Node) (h : Stands plan vs ps node) wher
   unfolding candidates
   candidates-of-node e = rw e
 
-  of-seed : node .seed ≡ true → partsOver f node RightNonObservable (others (countFor (polygon f (node .polygon)) node) (entryFor (polygon f (node .polygon)) node)) ≡ candidates f node
+  of-seed : node .seed ≡ true
+      → partsOver f node RightNonObservable (others (countFor (polygon f (node .polygon)) node) (entryFor (polygon f (node .polygon)) node))
+      ≡ candidates f node
   unfolding wholeEdges others
   of-seed e =
       let z : n + 1 - 1 ≡ n = omega arith in
-      rw (count-of-seed (polygon f (node .polygon)) node e, entry-of-seed (polygon f (node .polygon)) node e, z, candidates-of-seed e) (seed-parts e RightNonObservable 0 n ∙ sym (table-is-from n (wholeEdge f node)))
+      rw (count-of-seed (polygon f (node .polygon)) node e, entry-of-seed (polygon f (node .polygon)) node e, z, candidates-of-seed e)
+      (seed-parts e RightNonObservable 0 n ∙ sym (table-is-from n (wholeEdge f node)))
 
   entered-in : node .seed ≡ false → entryOf f node < n
   entered-in e = rw (its-polygon plan vs ps node h) (h .entered e)
@@ -146,10 +161,15 @@ module _ (plan vs ps : List ℕ) (node : Node) (h : Stands plan vs ps node) wher
   unfolding entryOf
   entry-is e = entry-of-node (polygon f (node .polygon)) node e
 
-  of-node : node .seed ≡ false → partsOver f node RightNonObservable (others (countFor (polygon f (node .polygon)) node) (entryFor (polygon f (node .polygon)) node)) ≡ candidates f node
+  of-node : node .seed ≡ false
+      → partsOver f node RightNonObservable (others (countFor (polygon f (node .polygon)) node) (entryFor (polygon f (node .polygon)) node))
+      ≡ candidates f node
   unfolding successorsIn successorsOf others
   of-node e =
-      rw (count-of-node (polygon f (node .polygon)) node e, entry-is e, candidates-of-node e, as-many-corners f (node .polygon)) (node-parts e (entryOf f node) (entered-in e) RightNonObservable 0 (n - 1) (omega arith))
+      rw (count-of-node (polygon f (node .polygon)) node e, entry-is e, candidates-of-node e, as-many-corners f (node .polygon))
+      (node-parts e (entryOf f node) (entered-in e) RightNonObservable 0 (n - 1) (omega arith))
 
   pub left-begin : leftIn f node (beginRound its node) ≡ candidates f node
-  left-begin = left-begin-parts ∙ ap (λ (q : Polygon). partsOver f node RightNonObservable (others (countFor q node) (entryFor q node))) (sym (its-polygon plan vs ps node h)) ∙ by-seed node of-seed of-node
+  left-begin =
+      left-begin-parts ∙ ap (λ (q : Polygon). partsOver f node RightNonObservable (others (countFor q node) (entryFor q node)))
+      (sym (its-polygon plan vs ps node h)) ∙ by-seed node of-seed of-node

@@ -71,7 +71,8 @@ unfolding walkedOn
 on-yields f node round = at-yields f node (edgeNumberOf round) (round .kind)
 
 -- what the code walks, by the number of the round's edge
-pub walked-as-on : (f : Floor) (node : Node) (round : Round) {i : ℕ} {w : Walked} → i ≡ edgeNumberOf round → w ≡ walkedAt f node i (round .kind) → w ≡ walkedOn f node round
+pub walked-as-on : (f : Floor) (node : Node) (round : Round) {i : ℕ} {w : Walked} → i ≡ edgeNumberOf round
+    → w ≡ walkedAt f node i (round .kind) → w ≡ walkedOn f node round
 unfolding walkedOn
 walked-as-on f node round e d = rw (← e) d
 
@@ -103,7 +104,8 @@ module _ (q : Polygon) (node : Node) where
     unfolding beginRound
     seed-begins e r = rw (entry-of-seed e, count-of-seed e, ← found) r
 
-    pub node-begins : node .seed ≡ false → (entry : ℕ) → entry ≡ placeOf q m (node .second) → round ≡ beginOf entry m → round ≡ beginRound q node
+    pub node-begins : node .seed ≡ false → (entry : ℕ) → entry ≡ placeOf q m (node .second) → round ≡ beginOf entry m
+        → round ≡ beginRound q node
     unfolding beginRound
     node-begins e entry at r = rw (entry-of-node e, count-of-node e, ← found, ← at) r
 

@@ -1,4 +1,5 @@
--- On an accepted floor every step leads to a node that stands on it: the polygon is listed, its entry edge's vertices too, and the edge is one of its own. Assumes nothing.
+-- On an accepted floor every step leads to a node that stands on it: the polygon is listed, its entry edge's vertices too, and the edge is one of its
+-- own. Assumes nothing.
 use Prim.Native.Nat.{ℕ, _≤_, _<_}
 use native.Mathlib.Nat.{lt-of-le-of-lt}
 use native.Mathlib.Decide.{decLt}

@@ -58,13 +58,15 @@ corner-held [] a i = nan-held
 corner-held (p ∷ ps) a zero = a .0
 corner-held (p ∷ ps) a (suc i) = corner-held ps (a .1) i
 
-walk-held : (root : Point) (interval : Segment) (corners : List Point) → All HeldPoint corners → (kind : SuccessorType) (is : List ℕ) → All HeldSuccessor (walkOf root interval corners kind is)
+walk-held : (root : Point) (interval : Segment) (corners : List Point) → All HeldPoint corners → (kind : SuccessorType) (is : List ℕ)
+    → All HeldSuccessor (walkOf root interval corners kind is)
 unfolding walkOf edgeOf
 walk-held root interval corners a kind [] = tt
 walk-held root interval corners a kind (i ∷ is) =
     let walk = walkEdgeOf root interval (edgeOf corners i) kind in
     all-append HeldSuccessor (successorsOn i (walk .parts)) _
-    (all-of-map HeldSuccessor (λ part. record { edge = i; part = part }) (walk .parts) (each-end HeldPoint sum-held root interval (edgeOf corners i) kind (corner-held corners a i) (corner-held corners a _)))
+    (all-of-map HeldSuccessor (λ part. record { edge = i; part = part }) (walk .parts)
+    (each-end HeldPoint sum-held root interval (edgeOf corners i) kind (corner-held corners a i) (corner-held corners a _)))
     (walk-held root interval corners a (walk .kind) is)
 
 pub candidates-held : (f : Floor) (node : Node) → All HeldSuccessor (candidates f node)
@@ -73,7 +75,10 @@ candidates-held f node = go (node .seed)
   where
     go : (b : Bool) → All HeldSuccessor (cond b (wholeEdges f node) (successorsIn f node))
     go true = all-table HeldSuccessor (cornerCount (polygon f (node .polygon))) (wholeEdge f node) (λ i. (vertex-held f _, vertex-held f _))
-    go false = walk-held (node .root) (node .interval) (table (cornerCount (polygon f (node .polygon))) (λ i. vertex f (corner (polygon f (node .polygon)) i))) (all-table HeldPoint (cornerCount (polygon f (node .polygon))) (λ i. vertex f (corner (polygon f (node .polygon)) i)) (λ i. vertex-held f _)) _ _
+    go false =
+        walk-held (node .root) (node .interval)
+        (table (cornerCount (polygon f (node .polygon))) (λ i. vertex f (corner (polygon f (node .polygon)) i)))
+        (all-table HeldPoint (cornerCount (polygon f (node .polygon))) (λ i. vertex f (corner (polygon f (node .polygon)) i)) (λ i. vertex-held f _)) _ _
 
 -- ---- the clip
 
@@ -92,7 +97,8 @@ clip-held root cone segment seen h e = go (lt (rightLength root cone) slack) ref
           record { x-held = rw (r .end-x) (add-fits binary32 _ _); y-held = rw (r .end-y) (add-fits binary32 _ _) },
         )
 
-pub clipped-held : (f : Floor) (node : Node) (kind : SuccessorType) (interval seen : Segment) → HeldSegment interval → clipped (f .vertices) node kind interval ≡ Seen seen → HeldSegment seen
+pub clipped-held : (f : Floor) (node : Node) (kind : SuccessorType) (interval seen : Segment) → HeldSegment interval
+    → clipped (f .vertices) node kind interval ≡ Seen seen → HeldSegment seen
 unfolding clipped
 clipped-held f node kind interval seen h e = go (not (node .seed) && sameOf (rootAfter (f .vertices) node kind) (node .root)) e
   where

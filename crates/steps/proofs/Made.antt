@@ -47,8 +47,10 @@ module _ (f : Floor) (node : Node) (s : Successor) (t : Step) where
     interval = interval;
   }
 
-  over : (interval : Segment) → eqb (neighbour (polygon f (node .polygon)) (s .edge)) unused ≡ false → isAllowed (f .vertices) (isTurn f) node (s .part .kind) ≡ true
-      → clipped (f .vertices) node (s .part .kind) (s .part .interval) ≡ Seen interval → isInterval interval ≡ true → Yes (made interval) ≡ Yes t → Over f node s t
+  over : (interval : Segment) → eqb (neighbour (polygon f (node .polygon)) (s .edge)) unused ≡ false
+      → isAllowed (f .vertices) (isTurn f) node (s .part .kind) ≡ true
+      → clipped (f .vertices) node (s .part .kind) (s .part .interval) ≡ Seen interval → isInterval interval ≡ true
+      → Yes (made interval) ≡ Yes t → Over f node s t
   over interval u a c i e =
       let k : made interval ≡ t = cc in
       record {
@@ -64,14 +66,20 @@ module _ (f : Floor) (node : Node) (s : Successor) (t : Step) where
 
   pub yes-tells : stepOf f node s ≡ Yes t → Over f node s t
   unfolding stepOf
-  yes-tells e = go (eqb (neighbour (polygon f (node .polygon)) (s .edge)) unused) refl (isAllowed (f .vertices) (isTurn f) node (s .part .kind)) refl (clipped (f .vertices) node (s .part .kind) (s .part .interval)) refl e
+  yes-tells e =
+      go (eqb (neighbour (polygon f (node .polygon)) (s .edge)) unused) refl (isAllowed (f .vertices) (isTurn f) node (s .part .kind)) refl
+      (clipped (f .vertices) node (s .part .kind) (s .part .interval)) refl e
     where
-      last : (interval : Segment) (b : Bool) → isInterval interval ≡ b → eqb (neighbour (polygon f (node .polygon)) (s .edge)) unused ≡ false → isAllowed (f .vertices) (isTurn f) node (s .part .kind) ≡ true
-          → clipped (f .vertices) node (s .part .kind) (s .part .interval) ≡ Seen interval → cond (not b) No (Yes (made interval)) ≡ Yes t → Over f node s t
+      last : (interval : Segment) (b : Bool) → isInterval interval ≡ b → eqb (neighbour (polygon f (node .polygon)) (s .edge)) unused ≡ false
+          → isAllowed (f .vertices) (isTurn f) node (s .part .kind) ≡ true
+          → clipped (f .vertices) node (s .part .kind) (s .part .interval) ≡ Seen interval → cond (not b) No (Yes (made interval)) ≡ Yes t
+          → Over f node s t
       last interval true i u a c e = over interval u a c i e
       last interval false i u a c e = no-yes e
 
-      go : (b : Bool) → eqb (neighbour (polygon f (node .polygon)) (s .edge)) unused ≡ b → (a : Bool) → isAllowed (f .vertices) (isTurn f) node (s .part .kind) ≡ a → (c : Clipped) → clipped (f .vertices) node (s .part .kind) (s .part .interval) ≡ c
+      go : (b : Bool) → eqb (neighbour (polygon f (node .polygon)) (s .edge)) unused ≡ b → (a : Bool)
+          → isAllowed (f .vertices) (isTurn f) node (s .part .kind) ≡ a → (c : Clipped)
+          → clipped (f .vertices) node (s .part .kind) (s .part .interval) ≡ c
           → cond b No (cond (not a) No (ifSeen c (λ interval. cond (not (isInterval interval)) No (Yes (made interval))))) ≡ Yes t → Over f node s t
       go true u a d c k e = no-yes e
       go false u false d c k e = no-yes e
@@ -91,7 +99,8 @@ module _ (f : Floor) (node : Node) (P : Step → Type 0) where
       go (Yes t) e b = (a .0 t e, b)
       go No e b = b
 
-  pub every-step-from : (goal : ℕ) → All (λ s. (t : Step) → stepOf f node s ≡ Yes t → P t) (candidates f node) → (t : Step) → t ∈ stepsFrom f goal node → P t
+  pub every-step-from : (goal : ℕ) → All (λ s. (t : Step) → stepOf f node s ≡ Yes t → P t) (candidates f node) → (t : Step)
+      → t ∈ stepsFrom f goal node → P t
   unfolding stepsFrom
   every-step-from goal a t m = go (eqb (node .polygon) goal) m
     where

@@ -74,7 +74,8 @@ module _ (s : ℕ) (vs ps : List ℕ) (bytes : Bytes ps) where
 
       go : Dec (p < length ps / (s * 8)) → Slots (getD (table (length ps / (s * 8)) (polygonAt s ps)) p (record { corners = []; neighbours = [] }))
       go (yes l) = rw (getD-table (length ps / (s * 8)) (polygonAt s ps) p (record { corners = []; neighbours = [] }) l) (stored-slots p)
-      go (no l) = rw (List·getD-eq-default (table (length ps / (s * 8)) (polygonAt s ps)) (record { corners = []; neighbours = [] }) {n = p} (unlisted l)) no-slots
+      go (no l) =
+          rw (List·getD-eq-default (table (length ps / (s * 8)) (polygonAt s ps)) (record { corners = []; neighbours = [] }) {n = p} (unlisted l)) no-slots
 
   after-u32 : (q : Polygon) → Slots q → (i : ℕ) → cornerAfter q i < 2 ^ 32
   unfolding cornerAfter
@@ -101,7 +102,8 @@ module _ (s : ℕ) (vs ps : List ℕ) (bytes : Bytes ps) where
   pub steps-are-held : (goal : ℕ) (node : Node) (t : Step) → t ∈ stepsFrom f goal node → Held t
   steps-are-held goal node t m =
       every-step-from f node Held goal
-      (all-turned HeldSuccessor (λ c. (t : Step) → stepOf f node c ≡ Yes t → Held t) (candidates f node) (λ c h t e. over-held node c h t (yes-tells f node c t e)) (candidates-held f node))
+      (all-turned HeldSuccessor (λ c. (t : Step) → stepOf f node c ≡ Yes t → Held t) (candidates f node)
+      (λ c h t e. over-held node c h t (yes-tells f node c t e)) (candidates-held f node))
       t m
 
   -- ---- the world

@@ -21,7 +21,8 @@ use Rattle.steps.specs.Steps.{stepsFrom, seedNode, enter}
 -- ---- the end: "then turning_point if any; then the goal"
 
 abbrev pub lastLeg : Point → Node → Turn → Ending
-lastLeg goal node (Around point) = record { points = node .points + 2; length = add binary32 (add binary32 (node .length) (distanceOf (node .root) point)) (distanceOf point goal) }
+lastLeg goal node (Around point) =
+    record { points = node .points + 2; length = add binary32 (add binary32 (node .length) (distanceOf (node .root) point)) (distanceOf point goal) }
 lastLeg goal node Straight = record { points = node .points + 1; length = add binary32 (node .length) (distanceOf (node .root) goal) }
 
 -- "With no step in the chain the goal is the only point."

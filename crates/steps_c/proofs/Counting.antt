@@ -73,7 +73,8 @@ module _ (q : Polygon) (view : View) (i : ℕ) (walked : Walked) (yielded : Yiel
   unfolding countedOn
   parts-end l = inv ∙ ap (λ (parts : List Part). countedOn q view i parts rest) (no-part walked yielded j l)
 
-  module _ (l : j < walked .count) (p : Permitted) (counted : Counted) (e : p ≡ stepBy q view (record { edge = i; part = partAt (walked .parts) j })) (d : counted ≡ countedOf p rest) where
+  module _ (l : j < walked .count) (p : Permitted) (counted : Counted) (e : p ≡ stepBy q view (record { edge = i; part = partAt (walked .parts) j }))
+      (d : counted ≡ countedOf p rest) where
     part-first : countedOn q view i (partsOf walked) k ≡ further counted (countedOn q view i (drop (suc j) (partsOf walked)))
     unfolding countedOn
     part-first = rw (d, e) (inv ∙ ap (λ (parts : List Part). countedOn q view i parts rest) (next-part walked yielded j l))
@@ -107,7 +108,8 @@ module _ (plan vs ps : List ℕ) (node : Node) (h : Stands plan vs ps node) (goa
 
   -- what the view tells of an edge's parts is what the steps over them are
   module _ (g : Ground plan vs ps) (view : View) (v : view ≡ viewOf (verticesOf vs) (isMarked plan) node) (i : ℕ) (ys : List Step) where
-    on-edge : (parts : List Part) (left : ℕ) → kth (stepsOver f node (successorsOn i parts) ++ ys) left ≡ among (countedOn (recordIn plan ps (view .polygon)) view i parts left) ys
+    on-edge : (parts : List Part) (left : ℕ) → kth (stepsOver f node (successorsOn i parts) ++ ys) left
+        ≡ among (countedOn (recordIn plan ps (view .polygon)) view i parts left) ys
     unfolding countedOn stepsOver
     on-edge [] left = refl
     on-edge (part ∷ parts) left =
@@ -121,7 +123,8 @@ module _ (plan vs ps : List ℕ) (node : Node) (h : Stands plan vs ps node) (goa
 
     module _ (g : Ground plan vs ps) (goes : Goes its node round) (on : isOverOf round ≡ false) (view : View)
         (v : view ≡ viewOf (verticesOf vs) (isMarked plan) node) (walked : Walked) (w : walked ≡ walkedOn f node round)
-        (i : ℕ) (n : i ≡ edgeNumberOf round) (counted : Counted) (d : counted ≡ countedOn (recordIn plan ps (view .polygon)) view i (partsOf walked) left) where
+        (i : ℕ) (n : i ≡ edgeNumberOf round) (counted : Counted)
+        (d : counted ≡ countedOn (recordIn plan ps (view .polygon)) view i (partsOf walked) left) where
       abbrev behind : List Step
       behind = stepsOver f node (leftIn f node (nextOf round (walked .kind)))
 
@@ -134,5 +137,6 @@ module _ (plan vs ps : List ℕ) (node : Node) (h : Stands plan vs ps node) (goa
       pub counting-finds : (t : Step) → counted ≡ Here t → kth (stepsFrom f goal node) k ≡ Yes t
       counting-finds t e = edge-first ∙ ap (λ (c : Counted). among c behind) e
 
-      pub counting-goes-on : (rest : ℕ) → counted ≡ Further rest → (next : Round) → next ≡ nextOf round (walked .kind) → Counted-in f goal node k next rest
+      pub counting-goes-on : (rest : ℕ) → counted ≡ Further rest → (next : Round) → next ≡ nextOf round (walked .kind)
+          → Counted-in f goal node k next rest
       counting-goes-on rest e next m = rw m (edge-first ∙ ap (λ (c : Counted). among c behind) e)

@@ -96,7 +96,8 @@ pub extern "C" fn steps_step(
     out: &mut [u32; 8],
 ) -> u32
     ensures { λ r. ⌜ r ≡ answerNumber (answerOf (now (vertices .entry)) (now (polygons .entry)) goal (nodeOf (now (node .entry))) k) ⌝ }
-    ensures { λ _. ⌜ now (out .exit) ≡ answerWritten (answerOf (now (vertices .entry)) (now (polygons .entry)) goal (nodeOf (now (node .entry))) k) (now (out .entry)) ⌝ }
+    ensures { λ _. ⌜ now (out .exit) ≡ answerWritten (answerOf (now (vertices .entry)) (now (polygons .entry)) goal (nodeOf (now (node .entry))) k)
+        (now (out .entry)) ⌝ }
 {
     let asked = node_of(node);
     let answer = ask(vertices, polygons, goal, asked, k);

@@ -53,11 +53,14 @@ module _ (f : Floor) (node : Node) where
   keeps-is RightNonObservable = refl
   keeps-is LeftNonObservable = refl
 
-  seen-is : (kind : SuccessorType) (interval : Segment) → clipIf (clipsBy (viewOf (f .vertices) (isTurn f) node) kind) (viewOf (f .vertices) (isTurn f) node .cone) interval ≡ clipped (f .vertices) node kind interval
+  seen-is : (kind : SuccessorType) (interval : Segment)
+      → clipIf (clipsBy (viewOf (f .vertices) (isTurn f) node) kind) (viewOf (f .vertices) (isTurn f) node .cone) interval
+      ≡ clipped (f .vertices) node kind interval
   unfolding clipIf clipsBy clipped viewOf
   seen-is kind interval =
       rw (keeps-is kind)
-      (ap (λ (x : Clipped). cond (cond (node .seed) false (sameOf (rootAfter (f .vertices) node kind) (node .root))) x (Seen interval)) (kept-cone-clips-the-same (node .root) (node .interval) interval)
+      (ap (λ (x : Clipped). cond (cond (node .seed) false (sameOf (rootAfter (f .vertices) node kind) (node .root))) x (Seen interval))
+      (kept-cone-clips-the-same (node .root) (node .interval) interval)
       ∙ go (clipToConeOf (node .root) (node .interval) interval) (Seen interval) (node .seed) (sameOf (rootAfter (f .vertices) node kind) (node .root)))
     where
       go : (x y : Clipped) (seed same : Bool) → cond (cond seed false same) x y ≡ cond (not seed && same) x y

@@ -19,24 +19,22 @@ Inv-loop polygons plan p n v i₀ i = (i ≤ n) × ((k : ℕ) → k < i → eqb 
 abbrev μ-loop : tie.MeasureT-loop
 μ-loop polygons plan p n v i₀ i = n - i
 
+abbrev to-loop : tie.After-corner Inv-loop μ-loop → tie.At-loop Inv-loop μ-loop
+to-loop c = c .before .before
+
 loop-holds : tie.Need-loop-holds Inv-loop μ-loop
 loop-holds c = (omega arith, below-none _)
 
-corner-requires : tie.Need-corner-requires Inv-loop μ-loop
-corner-requires c κs = search needs
-
 returns : tie.Need-returns Inv-loop μ-loop
 unfolding placeOf
-returns c = sym (first-is _ _ _ (omega arith) (c .before .before .before .loop .inv .1) (λ l. rw (← c .before .corner .ensures, eq-eqb _ _ (c .if1 .taken))))
-
-add-i : tie.Need-add-i Inv-loop μ-loop
-add-i c = omega arith
-
-loop-less : tie.Need-loop-less Inv-loop μ-loop
-loop-less c = omega arith
+returns c =
+    let at-corner = c .before in
+    sym (first-is _ _ _ (omega arith) (to-loop at-corner .loop .inv .1) (λ l. rw (← at-corner .corner .ensures, eq-eqb _ _ (c .if1 .taken))))
 
 loop-again : tie.Need-loop-again Inv-loop μ-loop
-loop-again c = (omega arith, below-more _ _ (c .before .before .before .loop .inv .1) (rw (← c .before .corner .ensures, ne-eqb _ _ (c .if1 .left))))
+loop-again c =
+    let at-corner = c .before in
+    (omega arith, below-more _ _ (to-loop at-corner .loop .inv .1) (rw (← at-corner .corner .ensures, ne-eqb _ _ (c .if1 .left))))
 
 returns-2 : tie.Need-returns-2 Inv-loop μ-loop
 unfolding placeOf
@@ -45,4 +43,4 @@ returns-2 c = sym (first-is _ _ _ (omega arith) (λ k l. c .before .loop .inv .1
 pub place-of-spec : {M : Type 1} → statement M
 place-of-spec =
     tie.close
-    (tie.spec Inv-loop μ-loop loop-holds corner-requires returns add-i loop-less loop-again returns-2)
+    (tie.spec Inv-loop μ-loop loop-holds (λ c κs. search needs) returns (λ c. omega arith) (λ c. omega arith) loop-again returns-2)

@@ -5,15 +5,11 @@ use Rattle.going.proofs.walk_by.Tie as tie
 
 returns : tie.Need-returns
 unfolding walkBy
-returns c =
-    let c1 = c .before in
-    rw (c1 .if1 .taken, ← c .whole .ensures)
+returns c = rw (c .before .if1 .taken, ← c .whole .ensures)
 
 returns-2 : tie.Need-returns-2
 unfolding walkBy
-returns-2 c =
-    let c3 = c .before .before .before in
-    rw (c3 .if1 .left, ← c .walk-edge .ensures)
+returns-2 c = let at-if1 = c .before .before .before in rw (at-if1 .if1 .left, ← c .walk-edge .ensures)
 
 pub walk-by-spec : {M : Type 1} → statement M
 walk-by-spec =

@@ -18,7 +18,8 @@ start c = c .before .before .before
 abbrev to-is-on : tie.Else1 → tie.After-is-on
 to-is-on c = c .before
 
-is-on : (c : tie.Else1) → let s = start (to-is-on c) in isOn (vertexCountIn (now (s .args .plan))) (polygonsIn (now (s .args .plan)) (now (s .args .polygons))) (s .args .node) ≡ true
+is-on : (c : tie.Else1) → let s = start (to-is-on c) in
+    isOn (vertexCountIn (now (s .args .plan))) (polygonsIn (now (s .args .plan)) (now (s .args .polygons))) (s .args .node) ≡ true
 is-on c = sym (to-is-on c .is-on .ensures) ∙ not-false _ (c .if1 .left)
 
 returns : tie.Need-returns

@@ -13,7 +13,8 @@ use Rattle.steps_c.proofs.node_of.Tie as tie
 
 -- the node is made of what the words say
 module _ (words : List ℕ) {right left root : Point} where
-  of-words : right ≡ fromBitsOf (getD words 4 0) (getD words 5 0) → left ≡ fromBitsOf (getD words 6 0) (getD words 7 0) → root ≡ fromBitsOf (getD words 8 0) (getD words 9 0)
+  of-words : right ≡ fromBitsOf (getD words 4 0) (getD words 5 0) → left ≡ fromBitsOf (getD words 6 0) (getD words 7 0)
+      → root ≡ fromBitsOf (getD words 8 0) (getD words 9 0)
       → record {
         seed = eqb
             (getD words 0 0) 1;
@@ -35,5 +36,7 @@ returns c = of-words _ (search needs) (search needs) (search needs)
 pub node-of-spec : {M : Type 1} → statement M
 node-of-spec =
     tie.close
-    (tie.spec (λ c. search needs) (λ c. search needs) (λ c κs. search needs) (λ c. search needs) (λ c. search needs) (λ c κs. search needs) (λ c. search needs)
-    (λ c. search needs) (λ c κs. search needs) (λ c. search needs) (λ c. search needs) (λ c. search needs) (λ c. search needs) (λ c. search needs) returns)
+    (tie.spec (λ c. search needs) (λ c. search needs) (λ c κs. search needs) (λ c. search needs) (λ c. search needs) (λ c κs. search needs)
+    (λ c. search needs)
+    (λ c. search needs) (λ c κs. search needs) (λ c. search needs) (λ c. search needs) (λ c. search needs) (λ c. search needs)
+    (λ c. search needs) returns)

@@ -17,7 +17,8 @@ returns c =
     let at-step = c .before in
     let at-answer = at-step .before .before in
     let at-ask = at-answer .before .before in
-    rw (← to-node-of at-ask .node-of .ensures, ← at-ask .ask .ensures, at-answer .answer .given .1) (refl, ap (λ (r : Record). r .words) (at-step .step .ensures))
+    rw (← to-node-of at-ask .node-of .ensures, ← at-ask .ask .ensures, at-answer .answer .given .1)
+    (refl, ap (λ (r : Record). r .words) (at-step .step .ensures))
 
 returns-2 : tie.Need-returns-2
 unfolding answerNumber answerWritten
@@ -37,7 +38,8 @@ returns-4 c =
     let at-told = c .before in
     let arm = at-told .before .before in
     let at-ask = arm .before .before in
-    rw (← to-node-of at-ask .node-of .ensures, ← at-ask .ask .ensures, arm .answer2 .given .1) (c .number .ensures ∙ ap numberOf (at-told .told .ensures), refl)
+    rw (← to-node-of at-ask .node-of .ensures, ← at-ask .ask .ensures, arm .answer2 .given .1)
+    (c .number .ensures ∙ ap numberOf (at-told .told .ensures), refl)
 
 pub steps-step-spec : {M : Type 1} → statement M
 steps-step-spec =

@@ -5,9 +5,7 @@ use Rattle.view.proofs.clip_if.Tie as tie
 
 returns : tie.Need-returns
 unfolding clipIf
-returns c =
-    let c1 = c .before in
-    rw (c1 .if1 .taken, ← c .clip .ensures)
+returns c = rw (c .before .if1 .taken, ← c .clip .ensures)
 
 returns-2 : tie.Need-returns-2
 unfolding clipIf

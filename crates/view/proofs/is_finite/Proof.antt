@@ -4,23 +4,15 @@ use Rattle.view.proofs.is_finite.Tie as tie
 
 returns : tie.Need-returns
 unfolding isFinite
-returns c =
-    let c1 = c .before in
-    let c2 = c1 .before in
-    rw (c2 .if1 .taken, c1 .if2 .taken, c .if3 .taken)
+returns c = let at-if2 = c .before in rw (at-if2 .before .if1 .taken, at-if2 .if2 .taken, c .if3 .taken)
 
 returns-2 : tie.Need-returns-2
 unfolding isFinite
-returns-2 c =
-    let c1 = c .before in
-    let c2 = c1 .before in
-    rw (c2 .if1 .taken, c1 .if2 .taken, c .if3 .left)
+returns-2 c = let at-if2 = c .before in rw (at-if2 .before .if1 .taken, at-if2 .if2 .taken, c .if3 .left)
 
 returns-3 : tie.Need-returns-3
 unfolding isFinite
-returns-3 c =
-    let c1 = c .before in
-    rw (c1 .if1 .taken, c .if2 .left)
+returns-3 c = rw (c .before .if1 .taken, c .if2 .left)
 
 returns-4 : tie.Need-returns-4
 unfolding isFinite

@@ -11,7 +11,8 @@ use Rattle.steps_c.proofs.kth.count_on_edge.Statement.{statement}
 use Rattle.steps_c.proofs.kth.count_on_edge.Tie as tie
 
 abbrev Inv-loop : tie.InvT-loop
-Inv-loop polygons plan view edge k walked rest₀ j₀ rest j = (j ≤ walked .count) × Counted-from (recordIn plan polygons (view .polygon)) view edge walked k rest j
+Inv-loop polygons plan view edge k walked rest₀ j₀ rest j =
+    (j ≤ walked .count) × Counted-from (recordIn plan polygons (view .polygon)) view edge walked k rest j
 
 abbrev μ-loop : tie.MeasureT-loop
 μ-loop polygons plan view edge k walked rest₀ j₀ rest j = walked .count - j
@@ -51,7 +52,8 @@ returns c =
     let at-loop-test = to-turn at-step in
     let l = to-loop at-loop-test in
     let s = start l in
-    sym (part-finds (recordIn (now (s .args .plan)) (now (s .args .polygons)) (s .args .view .polygon)) (s .args .view) (s .args .edge) _ (s .pre .2) (s .args .k) (l .loop .rest)
+    sym (part-finds (recordIn (now (s .args .plan)) (now (s .args .polygons)) (s .args .view .polygon)) (s .args .view) (s .args .edge) _ (s .pre .2)
+    (s .args .k) (l .loop .rest)
     (l .loop .j) (l .loop .inv .1) (at-loop-test .loop-test .taken) _ _ (at-step .step .ensures) (at-count-off .count-off .ensures) _
     (at-counted .counted .given .1))
 
@@ -74,7 +76,8 @@ loop-again c =
     let s = start l in (
       omega (arith, at-loop-test .loop-test .taken),
       rw (add-one (l .loop .j))
-          (part-goes-on (recordIn (now (s .args .plan)) (now (s .args .polygons)) (s .args .view .polygon)) (s .args .view) (s .args .edge) _ (s .pre .2) (s .args .k) (l .loop .rest)
+          (part-goes-on (recordIn (now (s .args .plan)) (now (s .args .polygons)) (s .args .view .polygon)) (s .args .view) (s .args .edge) _
+          (s .pre .2) (s .args .k) (l .loop .rest)
           (l .loop .j) (l .loop .inv .1) (at-loop-test .loop-test .taken) _ _ (at-step .step .ensures) (at-count-off .count-off .ensures) _
           (at-counted2 .counted2 .given .1)),
     )
@@ -83,7 +86,8 @@ returns-2 : tie.Need-returns-2 Inv-loop μ-loop
 returns-2 c =
     let l = c .before in
     let s = start l in
-    sym (parts-end (recordIn (now (s .args .plan)) (now (s .args .polygons)) (s .args .view .polygon)) (s .args .view) (s .args .edge) _ (s .pre .2) (s .args .k) (l .loop .rest)
+    sym (parts-end (recordIn (now (s .args .plan)) (now (s .args .polygons)) (s .args .view .polygon)) (s .args .view) (s .args .edge) _ (s .pre .2)
+    (s .args .k) (l .loop .rest)
     (l .loop .j) (l .loop .inv .1) (omega (arith, c .loop-test .left)))
 
 pub count-on-edge-spec : {M : Type 1} → statement M

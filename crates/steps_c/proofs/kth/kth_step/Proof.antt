@@ -69,7 +69,8 @@ to-counted2 c = c .before .before
 goes-on : (c : tie.Then2 Inv-loop μ-loop) → isOverOf (looping (to-is-over c) .loop .round) ≡ false
 goes-on c = sym (to-is-over c .is-over .ensures) ∙ not-true _ (c .if2 .taken)
 
-turns : (c : tie.Then2 Inv-loop μ-loop) → let l = looping (to-is-over c) in let s = begun l in Turning (now (s .args .plan)) (now (s .args .polygons)) (s .args .node) (l .loop .round)
+turns : (c : tie.Then2 Inv-loop μ-loop) → let l = looping (to-is-over c) in let s = begun l in
+    Turning (now (s .args .plan)) (now (s .args .polygons)) (s .args .node) (l .loop .round)
 turns c = let l = looping (to-is-over c) in turning _ _ _ (begun l .args .node) (begun l .pre .1) (l .loop .round) (l .loop .inv .1) (goes-on c)
 
 -- ---- before the loop

@@ -18,8 +18,9 @@ not-seed view kind e = ap (λ (b : Bool). cond b false (keepsBy view kind)) (sym
 
 returns-2 : tie.Need-returns-2
 returns-2 c =
-    let s = c .before .before in
-    c .keeps .ensures ∙ not-seed (s .args .self) (s .args .kind) (c .before .if1 .left)
+    let at-if1 = c .before in
+    let s = at-if1 .before in
+    c .keeps .ensures ∙ not-seed (s .args .self) (s .args .kind) (at-if1 .if1 .left)
 
 pub clips-spec : {M : Type 1} → statement M
 clips-spec =

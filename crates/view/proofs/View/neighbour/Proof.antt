@@ -5,16 +5,11 @@ use Rattle.view.proofs.View.neighbour.Tie as tie
 
 returns : tie.Need-returns
 unfolding neighbourBy
-returns c =
-    let c2 = c .before .before in
-    let c3 = c2 .before in
-    rw (← c3 .allows .ensures, c2 .if1 .taken, ← c .neighbour .ensures)
+returns c = let at-if1 = c .before .before in rw (← at-if1 .before .allows .ensures, at-if1 .if1 .taken, ← c .neighbour .ensures)
 
 returns-2 : tie.Need-returns-2
 unfolding neighbourBy
-returns-2 c =
-    let c1 = c .before in
-    rw (← c1 .allows .ensures, c .if1 .left)
+returns-2 c = rw (← c .before .allows .ensures, c .if1 .left)
 
 pub neighbour-spec : {M : Type 1} → statement M
 neighbour-spec =

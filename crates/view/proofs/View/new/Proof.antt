@@ -27,11 +27,12 @@ module _ (vs : List Point) (turns : ℕ → Bool) (node : Node) {right left : Co
 
 returns : tie.Need-returns
 returns c =
-    let at-new2 = c .before .before in
+    let at-same = c .before in
+    let at-new2 = at-same .before in
     let at-new = at-new2 .before in
     let s = at-new .before .before .before .before in
     of-parts (verticesOf (now (s .args .vertices))) (isMarked (now (s .args .plan))) (s .args .node) (at-new .new .ensures) (at-new2 .new2 .ensures)
-    (c .before .same .ensures) (c .new3 .ensures)
+    (at-same .same .ensures) (c .new3 .ensures)
 
 pub new-spec : {M : Type 1} → statement M
 new-spec =
