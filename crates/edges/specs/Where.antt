@@ -1,5 +1,5 @@
 -- Document 01, "A permitted step": which polygon a point is in, and which vertices turn. Assumes nothing.
-use Prim.Native.Nat.{ℕ, zero, suc, _*_, _/_}
+use Prim.Native.Nat.{ℕ, zero, suc}
 use mathlib.Core.Bool.{Bool, not, _&&_, _||_, cond}
 use mathlib.Core.List.{List}
 use lib.Dec.{eqb}
@@ -9,7 +9,8 @@ use Rattle.point.specs.declared.Point.{Point}
 use Rattle.point.specs.declared.EdgeSide.the-variants.{Right}
 use Rattle.point.specs.Sides.{sideOf, sameSideOf}
 use Rattle.plan.specs.Plan.{marked, laid}
-use Rattle.stored.specs.Stored.{Floor, Polygon, unused, corner, neighbour, cornerCount, cornerAfter, polygonIn, polygon, polygonsOf, edge}
+use Rattle.stored.specs.Stored.{Floor, Polygon, unused, vertexCount, polygonCount, polygonsOf}
+use Rattle.stored.specs.Stored.{corner, neighbour, cornerCount, cornerAfter, polygonIn, polygon, edge}
 
 -- "A polygon contains a point if the point is Right of none of its edges."
 unfoldable pub contains : Floor → Point → ℕ → Bool
@@ -50,4 +51,4 @@ turnsMarked polygons plan = markPolygons polygons (length polygons) plan
 
 -- the plan of a floor of one layer
 unfoldable pub planOf : ℕ → List ℕ → List ℕ → List ℕ
-planOf slots vertices polygons = turnsMarked (polygonsOf slots polygons) (laid slots (length vertices / 8) (length polygons / (slots * 8)))
+planOf slots vertices polygons = turnsMarked (polygonsOf slots polygons) (laid slots (vertexCount vertices) (polygonCount slots polygons))

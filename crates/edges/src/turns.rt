@@ -3,7 +3,7 @@
 ghost use mathlib.Core.Path.{_≡_};
 ghost use Prim.Native.Nat.{ℕ, _≤_, _<_};
 ghost use lib.ListN.{length};
-ghost use Rattle.plan.specs.Plan.{vertexCountIn, polygonCountIn};
+ghost use Rattle.plan.specs.Plan.{mostVertices, vertexCountIn, polygonCountIn};
 ghost use Rattle.stored.specs.Stored.{recordIn, polygonsIn, cornerCount, Lies, PolygonsPlanned};
 ghost use Rattle.faults.specs.Accepted.{Corners};
 ghost use Rattle.edges.specs.Where.{markEdge, markEdges, markPolygons, turnsMarked};
@@ -18,7 +18,7 @@ use stored::neighbour;
 // Marks both ends of edge i of polygon p, if it is a wall.
 fn mark_edge(polygons: &[u8], plan: &[u32; PLAN], p: usize, i: usize, marks: &mut [u32; PLAN])
     requires { ⌜ Lies (now plan) (now polygons) p × (i < cornerCount (recordIn (now plan) (now polygons) p)) ⌝ }
-    requires { ⌜ Corners (vertexCountIn (now plan)) (recordIn (now plan) (now polygons) p) × (vertexCountIn (now plan) ≤ 1024) ⌝ }
+    requires { ⌜ Corners (vertexCountIn (now plan)) (recordIn (now plan) (now polygons) p) × (vertexCountIn (now plan) ≤ mostVertices) ⌝ }
     ensures { λ _. ⌜ now (marks .exit) ≡ markEdge (recordIn (now (plan .entry)) (now (polygons .entry)) p) i (now (marks .entry)) ⌝ }
 {
     if neighbour(polygons, plan, p, i) == UNUSED {
@@ -32,7 +32,7 @@ fn mark_edge(polygons: &[u8], plan: &[u32; PLAN], p: usize, i: usize, marks: &mu
 // Marks the ends of the walls of polygon p.
 fn mark_edges(polygons: &[u8], plan: &[u32; PLAN], p: usize, marks: &mut [u32; PLAN])
     requires { ⌜ Lies (now plan) (now polygons) p ⌝ }
-    requires { ⌜ Corners (vertexCountIn (now plan)) (recordIn (now plan) (now polygons) p) × (vertexCountIn (now plan) ≤ 1024) ⌝ }
+    requires { ⌜ Corners (vertexCountIn (now plan)) (recordIn (now plan) (now polygons) p) × (vertexCountIn (now plan) ≤ mostVertices) ⌝ }
     ensures { λ _. let q = recordIn (now (plan .entry)) (now (polygons .entry)) p in
         ⌜ now (marks .exit) ≡ markEdges q (cornerCount q) (now (marks .entry)) ⌝ }
 {
@@ -46,7 +46,7 @@ fn mark_edges(polygons: &[u8], plan: &[u32; PLAN], p: usize, marks: &mut [u32; P
 
 // Marks the ends of the walls of every polygon.
 fn mark_polygons(polygons: &[u8], plan: &[u32; PLAN], marks: &mut [u32; PLAN])
-    requires { ⌜ PolygonsPlanned (now plan) (now polygons) × (vertexCountIn (now plan) ≤ 1024) ⌝ }
+    requires { ⌜ PolygonsPlanned (now plan) (now polygons) × (vertexCountIn (now plan) ≤ mostVertices) ⌝ }
     requires { ⌜ ((p : ℕ) → p < polygonCountIn (now plan) → Corners (vertexCountIn (now plan)) (recordIn (now plan) (now polygons) p)) ⌝ }
     ensures { λ _. ⌜ now (marks .exit) ≡ turnsMarked (polygonsIn (now (plan .entry)) (now (polygons .entry))) (now (marks .entry)) ⌝ }
 {
@@ -60,7 +60,7 @@ fn mark_polygons(polygons: &[u8], plan: &[u32; PLAN], marks: &mut [u32; PLAN])
 
 // The plan with its floor's turn vertices. It is read as it was laid.
 pub fn mark_turns(polygons: &[u8], plan: &mut [u32; PLAN])
-    requires { ⌜ PolygonsPlanned (now plan) (now polygons) × (vertexCountIn (now plan) ≤ 1024) ⌝ }
+    requires { ⌜ PolygonsPlanned (now plan) (now polygons) × (vertexCountIn (now plan) ≤ mostVertices) ⌝ }
     requires { ⌜ ((p : ℕ) → p < polygonCountIn (now plan) → Corners (vertexCountIn (now plan)) (recordIn (now plan) (now polygons) p)) ⌝ }
     ensures { λ _. ⌜ now (plan .exit) ≡ turnsMarked (polygonsIn (now (plan .entry)) (now (polygons .entry))) (now (plan .entry)) ⌝ }
 {

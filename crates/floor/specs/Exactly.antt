@@ -15,7 +15,8 @@ use Rattle.floor.specs.declared.FloorLook.{FloorLook}
 use Rattle.floor.specs.declared.FloorLook.the-variants.{Accepted as Sound, Faulty}
 use Rattle.floor.specs.declared.Look.{Look}
 use Rattle.floor.specs.declared.Look.the-variants.{Inside, Refused}
-use Rattle.stored.specs.Stored.{Floor, origin, floorOf, questionOf, polygon, edge, cornerCount}
+use Rattle.plan.specs.Plan.{mostVertices, mostPolygons}
+use Rattle.stored.specs.Stored.{Floor, vertexBytes, polygonBytes, origin, floorOf, questionOf, polygon, edge, cornerCount}
 use Rattle.faults.specs.Accepted.{InRange, Corners, Links, Accepted}
 
 -- ---- what is tested
@@ -28,8 +29,8 @@ pub record Whole (size most : ℕ) (bytes : List ℕ) : Type 0 where
 
 -- "1 to 1,024 records", "1 to 512 records"
 pub record Lists (slots : ℕ) (vertices polygons : List ℕ) : Type 0 where
-  pub vertices-whole : Whole 8 1024 vertices
-  pub polygons-whole : Whole (slots * 8) 512 polygons
+  pub vertices-whole : Whole vertexBytes mostVertices vertices
+  pub polygons-whole : Whole (polygonBytes slots) mostPolygons polygons
 
 -- "Coordinates are finite, of magnitude at most 16,384."
 abbrev pub VertexRight : Floor → ℕ → Type 0
@@ -69,8 +70,8 @@ module _ (slots : ℕ) (vertices polygons : List ℕ) where
 
   -- 2 to 6, of a floor alone. "4, 5, 6 .. also return the lowest record at fault". `Sound` is the answer Accepted, `Accepted` what 01 asks of a floor.
   abbrev pub FloorCase : FloorLook → Type 0
-  FloorCase (Faulty VertexLength) = ¬ Whole 8 1024 vertices
-  FloorCase (Faulty PolygonLength) = Whole 8 1024 vertices × ¬ Whole (slots * 8) 512 polygons
+  FloorCase (Faulty VertexLength) = ¬ Whole vertexBytes mostVertices vertices
+  FloorCase (Faulty PolygonLength) = Whole vertexBytes mostVertices vertices × ¬ Whole (polygonBytes slots) mostPolygons polygons
   FloorCase (Faulty (Vertex v)) = Lists slots vertices polygons × Lowest vertexCount (VertexRight floor) v
   FloorCase (Faulty (CornersFault p)) = Lists slots vertices polygons × All vertexCount (VertexRight floor) × Lowest polygonCount (CornersRight floor) p
   FloorCase (Faulty (LinksFault p)) = Lists slots vertices polygons × All vertexCount (VertexRight floor) × All polygonCount (CornersRight floor) × Lowest polygonCount (Links floor) p

@@ -1,5 +1,5 @@
 -- Document 01, "Numbers that come back": 2 to 9, "in table order, each over all records before the next", and what is told of each refusal. Assumes nothing.
-use Prim.Native.Nat.{ℕ, _*_, _/_}
+use Prim.Native.Nat.{ℕ}
 use mathlib.Core.Bool.{not, _&&_, cond}
 use mathlib.Core.List.{List}
 use lib.Dec.{leb, ltb}
@@ -14,8 +14,9 @@ use Rattle.floor.specs.declared.FloorLook.the-variants.{Accepted, Faulty
 use Rattle.floor.specs.declared.Look.{Look}
 use Rattle.floor.specs.declared.Look.the-variants.{Inside, Refused}
 use Rattle.point.specs.declared.Point.{Point}
-use Rattle.plan.specs.Plan.{laid}
-use Rattle.stored.specs.Stored.{Floor, Polygon, origin, polygonsOf, floorOf, questionOf, polygonIn}
+use Rattle.plan.specs.Plan.{mostVertices, mostPolygons, laid}
+use Rattle.stored.specs.Stored.{Floor, Polygon, vertexBytes, polygonBytes, vertexCount, polygonCount, origin}
+use Rattle.stored.specs.Stored.{polygonsOf, floorOf, questionOf, polygonIn}
 use Rattle.faults.specs.Tests.{lengthRight, pointRight, cornersRight, linksRight, questionRight}
 use Rattle.edges.specs.Where.{polygonOf, planOf}
 
@@ -44,8 +45,8 @@ recordsLookOf f =
 -- 2 to 5
 unfoldable pub cornersLookOf : ℕ → List ℕ → List ℕ → FloorLook
 cornersLookOf slots vertices polygons =
-    cond (not (lengthRight 8 1024 vertices)) (Faulty VertexLength)
-    (cond (not (lengthRight (slots * 8) 512 polygons)) (Faulty PolygonLength)
+    cond (not (lengthRight vertexBytes mostVertices vertices)) (Faulty VertexLength)
+    (cond (not (lengthRight (polygonBytes slots) mostPolygons polygons)) (Faulty PolygonLength)
     (recordsLookOf (floorOf slots vertices polygons)))
 
 -- 6
@@ -83,7 +84,8 @@ lookOf slots vertices polygons question = askIf (floorLookOf slots vertices poly
 -- laid where 2 and 3 find nothing
 unfoldable pub laidAfter : ℕ → List ℕ → List ℕ → List ℕ → List ℕ
 laidAfter slots vertices polygons before =
-    cond (lengthRight 8 1024 vertices && lengthRight (slots * 8) 512 polygons) (laid slots (length vertices / 8) (length polygons / (slots * 8))) before
+    cond (lengthRight vertexBytes mostVertices vertices && lengthRight (polygonBytes slots) mostPolygons polygons)
+    (laid slots (vertexCount vertices) (polygonCount slots polygons)) before
 
 -- one plan of an accepted floor, another of one at fault
 abbrev pub planIf : FloorLook → List ℕ → List ℕ → List ℕ

@@ -4,8 +4,8 @@
 ghost use mathlib.Core.Path.{_≡_};
 ghost use Prim.Native.Nat.{ℕ, _/_, _≤_, _<_};
 ghost use lib.ListN.{length, getD};
-ghost use Rattle.plan.specs.Plan.{vertexCountIn, polygonCountIn};
-ghost use Rattle.stored.specs.Stored.{origin, verticesOf, recordIn, polygonsIn, floorIn, VerticesPlanned, PolygonsPlanned};
+ghost use Rattle.plan.specs.Plan.{mostVertices, vertexCountIn, polygonCountIn};
+ghost use Rattle.stored.specs.Stored.{vertexCount, origin, verticesOf, recordIn, polygonsIn, floorIn, VerticesPlanned, PolygonsPlanned};
 ghost use Rattle.faults.specs.Tests.{pointRight, questionRight};
 ghost use Rattle.faults.specs.Accepted.{Corners};
 ghost use Rattle.edges.specs.Where.{turnsMarked};
@@ -56,7 +56,7 @@ pub enum Look {
 
 // 4: vertex v.
 fn vertex_right(vertices: &[u8], v: usize) -> bool
-    requires { ⌜ v < length (now vertices) / 8 ⌝ }
+    requires { ⌜ v < vertexCount (now vertices) ⌝ }
     ensures { λ r. ⌜ r ≡ pointRight (getD (verticesOf (now (vertices .entry))) v origin) ⌝ }
 {
     faults::point_right(stored::stored_vertex(vertices, v))
@@ -64,7 +64,7 @@ fn vertex_right(vertices: &[u8], v: usize) -> bool
 
 // 4: the lowest vertex at fault, or the number of vertices.
 fn bad_vertex(vertices: &[u8], plan: &[u32; PLAN]) -> usize
-    requires { ⌜ vertexCountIn (now plan) ≡ length (now vertices) / 8 ⌝ }
+    requires { ⌜ vertexCountIn (now plan) ≡ vertexCount (now vertices) ⌝ }
     ensures { λ r. ⌜ r ≡ badVertex (verticesOf (now (vertices .entry))) ⌝ }
 {
     let n = plan::vertex_count(plan);
@@ -148,7 +148,7 @@ pub fn look_at_corners(vertices: &[u8], polygons: &[u8], plan: &mut [u32; PLAN])
 
 // 6, of a floor whose corners are right, and the turn vertices of one that is accepted.
 fn look_at_links(polygons: &[u8], plan: &mut [u32; PLAN]) -> FloorLook
-    requires { ⌜ PolygonsPlanned (now plan) (now polygons) × (vertexCountIn (now plan) ≤ 1024) ⌝ }
+    requires { ⌜ PolygonsPlanned (now plan) (now polygons) × (vertexCountIn (now plan) ≤ mostVertices) ⌝ }
     requires { ⌜ ((p : ℕ) → p < polygonCountIn (now plan) → Corners (vertexCountIn (now plan)) (recordIn (now plan) (now polygons) p)) ⌝ }
     ensures { λ r. ⌜ r ≡ linksLookOf (polygonsIn (now (plan .entry)) (now (polygons .entry))) ⌝ }
     ensures { λ _. let listed = polygonsIn (now (plan .entry)) (now (polygons .entry)) in ⌜ now (plan .exit) ≡ planIf (linksLookOf listed) (turnsMarked listed (now (plan .entry))) (now (plan .entry)) ⌝ }

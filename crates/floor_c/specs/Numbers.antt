@@ -5,6 +5,7 @@ use lib.Dec.{ltb}
 use Rattle.told.specs.Told.{numberOf}
 use Rattle.floor.specs.declared.FloorLook.{FloorLook}
 use Rattle.floor.specs.declared.FloorLook.the-variants.{Accepted, Faulty}
+use Rattle.plan.specs.Plan.{mostVertices}
 use Rattle.stored.specs.Stored.{Floor}
 use Rattle.edges.specs.Where.{isTurn}
 use Rattle.floor.specs.Look.{refusalTold}
@@ -20,7 +21,7 @@ marksOf f v = isTurn f v
 
 -- 1 at a turn vertex, 0 at every other number
 unfoldable pub markNumber : (ℕ → Bool) → ℕ → ℕ
-markNumber marks v = cond (ltb v 1024) (cond (marks v) 1 0) 0
+markNumber marks v = cond (ltb v mostVertices) (cond (marks v) 1 0) 0
 
 unfoldable pub turnNumber : FloorLook → ℕ → ℕ
 turnNumber Accepted mark = mark

@@ -13,7 +13,7 @@ ghost use Rattle.walk.specs.Walk.{partsOf};
 ghost use Rattle.walk.specs.Round.{successorsOn};
 ghost use Rattle.walk.specs.Turns.{isOverOf, edgeNumberOf, nextOf};
 ghost use Rattle.plan.specs.Plan.{slotsIn, isMarked};
-ghost use Rattle.stored.specs.Stored.{verticesOf, recordIn, floorIn};
+ghost use Rattle.stored.specs.Stored.{vertexCount, verticesOf, recordIn, floorIn};
 ghost use Rattle.edges.specs.Ground.{Ground};
 ghost use Rattle.steps.specs.Steps.{stepOf, stepsOver, stepsFrom};
 ghost use Rattle.view.specs.View.{viewOf};
@@ -154,7 +154,7 @@ fn make(
 ) -> Made
     requires { ⌜ Fit task (stateOf (workOf (now floats) (now words) (now tree)) counts) ⌝ }
     requires { ⌜ Leaving (stateOf (workOf (now floats) (now words) (now tree)) counts) from ⌝ }
-    requires { ⌜ (from .node .first < length (now vertices) / 8) × (from .node .second < length (now vertices) / 8) ⌝ }
+    requires { ⌜ (from .node .first < vertexCount (now vertices)) × (from .node .second < vertexCount (now vertices)) ⌝ }
     ensures { λ r.
         let before = stateOf (workOf (now (floats .entry)) (now (words .entry)) (now (tree .entry))) counts in
         let after = stateOf (workOf (now (floats .exit)) (now (words .exit)) (now (tree .exit))) (r .counts) in

@@ -7,6 +7,19 @@ use lib.Bits.{bitOr}
 use lib.Dec.{eqb}
 use lib.ListN.{getD, set, replicate}
 
+-- ---- how much a floor may have
+
+-- "1 to 1,024 records", "1 to 512 records"
+abbrev pub mostVertices : ℕ
+mostVertices = 1024
+
+abbrev pub mostPolygons : ℕ
+mostPolygons = 512
+
+-- slots of a polygon's record, of each kind
+abbrev pub mostSlots : ℕ
+mostSlots = 16
+
 -- ---- where a word stands
 
 -- the number of slots that a polygon's record has for corners, and the number of layers

@@ -6,7 +6,7 @@
 ghost use mathlib.Core.Path.{_≡_};
 ghost use Prim.Native.Nat.{_≤_, _<_};
 ghost use lib.ListN.{getD};
-ghost use Rattle.plan.specs.Plan.{slotsIn, vertexCountIn, polygonCountIn, isMarked, marked, laid};
+ghost use Rattle.plan.specs.Plan.{mostVertices, mostPolygons, mostSlots, planWords, slotsIn, vertexCountIn, polygonCountIn, isMarked, marked, laid};
 
 // The words of a plan: 2, 6 of the layer, and 32 of marks.
 pub const PLAN: usize = 40;
@@ -23,7 +23,7 @@ const MARKS: usize = 8;
 
 // A word, as a number that is known to fit one.
 fn word(plan: &[u32; PLAN], k: usize) -> u32
-    requires { ⌜ k < 40 ⌝ }
+    requires { ⌜ k < planWords ⌝ }
     ensures { λ r. ⌜ r ≡ getD (now (plan .entry)) k 0 ⌝ }
 {
     plan[k]
@@ -50,7 +50,7 @@ pub fn polygon_count(plan: &[u32; PLAN]) -> usize
 
 // Whether vertex v turns.
 pub fn turns(plan: &[u32; PLAN], v: usize) -> bool
-    requires { ⌜ v < 1024 ⌝ }
+    requires { ⌜ v < mostVertices ⌝ }
     ensures { λ r. ⌜ r ≡ isMarked (now (plan .entry)) v ⌝ }
 {
     (plan[MARKS + v / 32] >> (v % 32)) % 2 == 1
@@ -58,7 +58,7 @@ pub fn turns(plan: &[u32; PLAN], v: usize) -> bool
 
 // Marks vertex v as one that turns.
 pub fn mark(plan: &mut [u32; PLAN], v: usize)
-    requires { ⌜ v < 1024 ⌝ }
+    requires { ⌜ v < mostVertices ⌝ }
     ensures { λ _. ⌜ now (plan .exit) ≡ marked (now (plan .entry)) v ⌝ }
 {
     let word = MARKS + v / 32;
@@ -67,7 +67,7 @@ pub fn mark(plan: &mut [u32; PLAN], v: usize)
 
 // The plan of one layer that is not moved, before a vertex is marked.
 pub fn lay(plan: &mut [u32; PLAN], slots: usize, vertices: usize, polygons: usize)
-    requires { ⌜ (slots ≤ 16) × (vertices ≤ 1024) × (polygons ≤ 512) ⌝ }
+    requires { ⌜ (slots ≤ mostSlots) × (vertices ≤ mostVertices) × (polygons ≤ mostPolygons) ⌝ }
     ensures { λ _. ⌜ now (plan .exit) ≡ laid slots vertices polygons ⌝ }
 {
     *plan = [0; PLAN];

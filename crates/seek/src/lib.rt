@@ -9,7 +9,7 @@ ghost use Rattle.walk.specs.Walk.{partsOf};
 ghost use Rattle.walk.specs.Round.{successorsOn};
 ghost use Rattle.walk.specs.Turns.{isOverOf, edgeNumberOf, nextOf};
 ghost use Rattle.plan.specs.Plan.{slotsIn, vertexCountIn, isMarked};
-ghost use Rattle.stored.specs.Stored.{verticesOf, recordIn, floorIn, Lies, VerticesPlanned};
+ghost use Rattle.stored.specs.Stored.{vertexCount, verticesOf, recordIn, floorIn, Lies, VerticesPlanned};
 ghost use Rattle.edges.specs.Ground.{Ground};
 ghost use Rattle.steps.specs.Steps.{isAllowed, clipped, stepsOver, stepsFrom};
 ghost use Rattle.going.specs.Going.{walkedOn, Stands, Goes};
@@ -85,7 +85,7 @@ fn allows(vertices: &[u8], plan: &[u32; PLAN], node: Node, kind: SuccessorType) 
 
 // What the node sees of an interval of this kind.
 fn see(vertices: &[u8], node: Node, kind: SuccessorType, interval: Segment) -> Clipped
-    requires { ⌜ (node .first < length (now vertices) / 8) × (node .second < length (now vertices) / 8) ⌝ }
+    requires { ⌜ (node .first < vertexCount (now vertices)) × (node .second < vertexCount (now vertices)) ⌝ }
     ensures { λ r. ⌜ r ≡ clipped (verticesOf (now (vertices .entry))) node kind interval ⌝ }
 {
     if node.seed {

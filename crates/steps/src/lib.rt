@@ -3,7 +3,7 @@
 ghost use mathlib.Core.Path.{_≡_};
 ghost use Prim.Native.Nat.{_+_, _*_, _/_, _≤_, _<_, _^_};
 ghost use lib.ListN.{length};
-ghost use Rattle.stored.specs.Stored.{verticesOf, questionOf};
+ghost use Rattle.stored.specs.Stored.{vertexCount, verticesOf, questionOf};
 ghost use Rattle.steps.specs.Steps.{seedNode, rootAfter, enter};
 ghost use Rattle.steps.specs.World.{endingOf, tripOf};
 use cut::SuccessorType;
@@ -81,7 +81,7 @@ impl Node {
 
     // The root after a step of this kind: the vertex that the way turns at, if it turns.
     pub fn root_after(self, vertices: &[u8], kind: SuccessorType) -> Point
-        requires { ⌜ (self .first < length (now vertices) / 8) × (self .second < length (now vertices) / 8) ⌝ }
+        requires { ⌜ (self .first < vertexCount (now vertices)) × (self .second < vertexCount (now vertices)) ⌝ }
         ensures { λ r. ⌜ r ≡ rootAfter (verticesOf (now (vertices .entry))) self kind ⌝ }
     {
         match kind {
@@ -97,7 +97,7 @@ impl Node {
 
     // Where a step leads to. Where the root is another one, the way has one more point and one more leg.
     pub fn enter(self, vertices: &[u8], step: Step) -> Node
-        requires { ⌜ (self .first < length (now vertices) / 8) × (self .second < length (now vertices) / 8) × (self .points + 1 < 2 ^ 32) ⌝ }
+        requires { ⌜ (self .first < vertexCount (now vertices)) × (self .second < vertexCount (now vertices)) × (self .points + 1 < 2 ^ 32) ⌝ }
         ensures { λ r. ⌜ r ≡ enter (verticesOf (now (vertices .entry))) self step ⌝ }
     {
         let kind = step.kind;

@@ -8,7 +8,7 @@ use lib.Dec.{ltb, eqb}
 use lib.ListN.{length, getD}
 use Rattle.counts.specs.Counts.{first, table}
 use Rattle.word.specs.Word.{wordAt}
-use Rattle.plan.specs.Plan.{slotsIn, vertexCountIn, polygonCountIn}
+use Rattle.plan.specs.Plan.{mostVertices, mostPolygons, mostSlots, slotsIn, vertexCountIn, polygonCountIn}
 use Rattle.point.specs.declared.Point.{Point}
 use Rattle.point.specs.declared.Segment.{Segment}
 use Rattle.point.specs.Point.{zero, pointOf, fromBitsOf, plusOf}
@@ -32,12 +32,18 @@ pub record Question : Type 0 where
 -- ---- records: "of one fixed size, no header, little-endian"
 
 -- "Vertex list: 8-byte records, x then y as f32."
+abbrev pub vertexBytes : ℕ
+vertexBytes = 8
+
 unfoldable pub vertexAt : List ℕ → ℕ → Point
-vertexAt bytes v = fromBitsOf (wordAt bytes (v * 8)) (wordAt bytes (v * 8 + 4))
+vertexAt bytes v = fromBitsOf (wordAt bytes (v * vertexBytes)) (wordAt bytes (v * vertexBytes + 4))
 
 -- "Polygon list: 64-byte records, eight u32 corners, then eight u32 neighbours." Eight is the number of slots of each kind, here any.
+abbrev pub polygonBytes : ℕ → ℕ
+polygonBytes slots = slots * 8
+
 unfoldable pub slotAt : ℕ → List ℕ → ℕ → ℕ → ℕ
-slotAt slots bytes p i = wordAt bytes (p * (slots * 8) + i * 4)
+slotAt slots bytes p i = wordAt bytes (p * polygonBytes slots + i * 4)
 
 unfoldable pub polygonAt : ℕ → List ℕ → ℕ → Polygon
 polygonAt slots bytes p = record {
@@ -49,12 +55,19 @@ polygonAt slots bytes p = record {
 unfoldable pub questionOf : List ℕ → Question
 questionOf bytes = record { start = fromBitsOf (wordAt bytes 0) (wordAt bytes 4); goal = fromBitsOf (wordAt bytes 8) (wordAt bytes 12) }
 
+-- how many records of a list are whole
+abbrev pub vertexCount : List ℕ → ℕ
+vertexCount bytes = length bytes / vertexBytes
+
+abbrev pub polygonCount : ℕ → List ℕ → ℕ
+polygonCount slots bytes = length bytes / polygonBytes slots
+
 -- what a list of bytes stands for: as many records as are whole
 unfoldable pub verticesOf : List ℕ → List Point
-verticesOf bytes = table (length bytes / 8) (vertexAt bytes)
+verticesOf bytes = table (vertexCount bytes) (vertexAt bytes)
 
 unfoldable pub polygonsOf : ℕ → List ℕ → List Polygon
-polygonsOf slots bytes = table (length bytes / (slots * 8)) (polygonAt slots bytes)
+polygonsOf slots bytes = table (polygonCount slots bytes) (polygonAt slots bytes)
 
 -- the floor that two lists of bytes stand for
 abbrev pub floorOf : ℕ → List ℕ → List ℕ → Floor
@@ -117,17 +130,17 @@ floorIn plan vertices polygons = floorOf (slotsIn plan) vertices polygons
 
 -- the record of polygon p lies in the list
 abbrev pub Lies : List ℕ → List ℕ → ℕ → Type 0
-Lies plan bytes p = (slotsIn plan ≤ 16) × (p < length bytes / (slotsIn plan * 8))
+Lies plan bytes p = (slotsIn plan ≤ mostSlots) × (p < polygonCount (slotsIn plan) bytes)
 
 -- ---- a plan of these lists, whose lengths the tests 2 and 3 have found right
 
 pub record VerticesPlanned (plan vertices : List ℕ) : Type 0 where
-  pub counted : vertexCountIn plan ≡ length vertices / 8
-  pub some : 1 ≤ length vertices / 8
-  pub few : length vertices / 8 ≤ 1024
+  pub counted : vertexCountIn plan ≡ vertexCount vertices
+  pub some : 1 ≤ vertexCount vertices
+  pub few : vertexCount vertices ≤ mostVertices
 
 pub record PolygonsPlanned (plan polygons : List ℕ) : Type 0 where
   pub some-slots : 0 < slotsIn plan
-  pub few-slots : slotsIn plan ≤ 16
-  pub counted : polygonCountIn plan ≡ length polygons / (slotsIn plan * 8)
-  pub few : length polygons / (slotsIn plan * 8) ≤ 512
+  pub few-slots : slotsIn plan ≤ mostSlots
+  pub counted : polygonCountIn plan ≡ polygonCount (slotsIn plan) polygons
+  pub few : polygonCount (slotsIn plan) polygons ≤ mostPolygons

@@ -6,7 +6,7 @@ ghost use mathlib.Core.Bool.{cond};
 ghost use lib.ListN.{length};
 ghost use Rattle.point.specs.Point.{plusOf};
 ghost use Rattle.plan.specs.Plan.{slotsIn};
-ghost use Rattle.stored.specs.Stored.{unused, origin, vertexAt, slotIn, recordIn, questionOf, corner, neighbour, cornerCount, cornerAfter, Lies};
+ghost use Rattle.stored.specs.Stored.{unused, vertexCount, origin, vertexAt, slotIn, recordIn, questionOf, corner, neighbour, cornerCount, cornerAfter, Lies};
 use plan::PLAN;
 use point::Point;
 
@@ -15,7 +15,7 @@ pub const UNUSED: u32 = 0xFFFF_FFFF;
 
 // A vertex as it is stored.
 pub fn stored_vertex(vertices: &[u8], v: usize) -> Point
-    requires { ⌜ v < length (now vertices) / 8 ⌝ }
+    requires { ⌜ v < vertexCount (now vertices) ⌝ }
     ensures { λ r. ⌜ r ≡ vertexAt (now (vertices .entry)) v ⌝ }
 {
     Point::from_bits(word::read(vertices, v * 8), word::read(vertices, v * 8 + 4))
@@ -23,7 +23,7 @@ pub fn stored_vertex(vertices: &[u8], v: usize) -> Point
 
 // A vertex as it is used: its coordinates plus 0.0, so that -0.0 becomes +0.0.
 pub fn used_vertex(vertices: &[u8], v: usize) -> Point
-    requires { ⌜ v < length (now vertices) / 8 ⌝ }
+    requires { ⌜ v < vertexCount (now vertices) ⌝ }
     ensures { λ r. ⌜ r ≡ plusOf (vertexAt (now (vertices .entry)) v) origin ⌝ }
 {
     stored_vertex(vertices, v).plus(Point::new(0.0, 0.0))
