@@ -1,5 +1,5 @@
 -- The state in which a search begins is sound, and so is the one in which it ends. Rests on specs/Sound. Assumes nothing.
-use Prim.Native.Nat.{ℕ, zero, _+_, _*_, _/_, _≤_, _<_}
+use Prim.Native.Nat.{ℕ, zero, _+_, _*_, _≤_, _<_}
 use native.Mathlib.Omega.{arith}
 use mathlib.Core.Path.{_≡_, refl, sym, _∙_, subst}
 use mathlib.Core.Bool.{Bool, true, false, cond}
@@ -25,11 +25,13 @@ use Rattle.queue.proofs.Queued.{queued-is, tree-of-own}
 use Rattle.queue.proofs.Lent.{cleared-length, cleared-tree}
 use Rattle.machine.specs.declared.Task.{Task}
 use Rattle.machine.specs.declared.Finish.the-variants.{Filled}
-use Rattle.places.specs.Layout.{Work, Room, wordAt, nodeAt, parentAt, depthAt, numberAt, fAt, isQueued, putFloats, putWords, recordPut}
+use Rattle.places.specs.Layout.{floatsPerPlace, wordsPerPlace, polygonCell, seedKind, Work, Room, wordAt, nodeAt, parentAt, depthAt, numberAt, fAt, isQueued}
+use Rattle.places.specs.Layout.{putFloats, putWords, recordPut}
 use Rattle.machine.specs.Search.{State}
 use Rattle.machine.specs.Search as search
 use Rattle.machine.specs.Sound.{isPlus, Held, Sound, OnRecord, Numbered}
-use Rattle.places.proofs.Rows.{node-same, node-put, polygon-put, parent-put, depth-put, number-put, put-floats-length, put-words-length, record-length, record-beside}
+use Rattle.places.proofs.Rows.{node-same, node-put, polygon-put, parent-put, depth-put, number-put, put-floats-length, put-words-length, record-length}
+use Rattle.places.proofs.Rows.{record-beside}
 use Rattle.places.proofs.Records.{record-root-there, record-for-new}
 use Rattle.machine.proofs.Kept.{Origins, sound-made-all, Finishes, sound-run}
 
@@ -50,10 +52,10 @@ module _ (plan vs ps : List ℕ) (t : Task) (g : Ground plan vs ps) (listed : t 
   abbrev first : State
   first = search.begun f t seed w
 
-  floats-room : (0 + 1) * 11 ≤ length (w .floats)
+  floats-room : (0 + 1) * floatsPerPlace ≤ length (w .floats)
   floats-room = omega (arith, room .floats-room, places)
 
-  words-room : (0 + 1) * 8 ≤ length (w .words)
+  words-room : (0 + 1) * wordsPerPlace ≤ length (w .words)
   words-room = omega (arith, room .words-room, places)
 
   seeded : eqb 1 1 ≡ seed .seed
@@ -61,32 +63,36 @@ module _ (plan vs ps : List ℕ) (t : Task) (g : Ground plan vs ps) (listed : t 
   seeded = refl
 
   -- the seed has left no other polygon than its own
-  its-left : wordAt (putWords (w .words) 0 1 seed 0 0 0) 0 1 ≡ seed .left
+  its-left : wordAt (putWords (w .words) 0 seedKind seed 0 0 0) 0 polygonCell ≡ seed .left
   unfolding seedNode
-  its-left = polygon-put (w .words) 0 1 seed 0 0 0 words-room (w .floats) point.zero floats-room
+  its-left = polygon-put (w .words) 0 seedKind seed 0 0 0 words-room (w .floats) point.zero floats-room
 
   its-seed : nodeAt (first .work) 0 ≡ seed
   unfolding search.begun search.planted
   its-seed =
-      node-same (recordPut (putFloats (w .floats) 0 seed point.zero) 0 (seed .root) point.zero) (putFloats (w .floats) 0 seed point.zero) 0 (record-beside (putFloats (w .floats) 0 seed point.zero) 0 (seed .root) point.zero 0) (putWords (w .words) 0 1 seed 0 0 0) (putWords (w .words) 0 1 seed 0 0 0) (λ k b. refl) refl
-      ∙ node-put (w .words) 0 1 seed 0 0 0 words-room (w .floats) point.zero floats-room seeded its-left
+      node-same (recordPut (putFloats (w .floats) 0 seed point.zero) 0 (seed .root) point.zero) (putFloats (w .floats) 0 seed point.zero) 0
+      (record-beside (putFloats (w .floats) 0 seed point.zero) 0 (seed .root) point.zero 0) (putWords (w .words) 0 seedKind seed 0 0 0)
+      (putWords (w .words) 0 seedKind seed 0 0 0) (λ k b. refl) refl
+      ∙ node-put (w .words) 0 seedKind seed 0 0 0 words-room (w .floats) point.zero floats-room seeded its-left
 
   its-parent : parentAt (first .work) 0 ≡ 0
   unfolding search.begun search.planted
-  its-parent = parent-put (w .words) 0 1 seed 0 0 0 words-room
+  its-parent = parent-put (w .words) 0 seedKind seed 0 0 0 words-room
 
   its-depth : depthAt (first .work) 0 ≡ 0
   unfolding search.begun search.planted
-  its-depth = depth-put (w .words) 0 1 seed 0 0 0 words-room
+  its-depth = depth-put (w .words) 0 seedKind seed 0 0 0 words-room
 
   its-number : numberAt (first .work) 0 ≡ 0
   unfolding search.begun search.planted
-  its-number = number-put (w .words) 0 1 seed 0 0 0 words-room
+  its-number = number-put (w .words) 0 seedKind seed 0 0 0 words-room
 
   pub on-first : sameOf start start ≡ true → OnRecord first (seed .root) 0
   unfolding search.begun search.planted seedNode
   on-first self = record {
-    found = record-for-new (first .work .floats) (putFloats (w .floats) 0 seed point.zero) 0 start (λ k l. absurd (omega arith)) (omega arith) (record-root-there (putFloats (w .floats) 0 seed point.zero) 0 start point.zero (rw (put-floats-length (w .floats) 0 seed point.zero) floats-room)) self;
+    found = record-for-new (first .work .floats) (putFloats (w .floats) 0 seed point.zero) 0 start (λ k l. absurd (omega arith)) (omega arith)
+        (record-root-there (putFloats (w .floats) 0 seed point.zero) 0 start point.zero
+        (rw (put-floats-length (w .floats) 0 seed point.zero) floats-room)) self;
     low = omega arith;
   }
 
@@ -114,8 +120,9 @@ module _ (plan vs ps : List ℕ) (t : Task) (g : Ground plan vs ps) (listed : t 
   first-room : Room n (first .work)
   unfolding search.begun search.planted
   first-room = record {
-    floats-room = rw (record-length (putFloats (w .floats) 0 seed point.zero) 0 (seed .root) point.zero, put-floats-length (w .floats) 0 seed point.zero) (room .floats-room);
-    words-room = rw (put-words-length (w .words) 0 1 seed 0 0 0) (room .words-room);
+    floats-room = rw (record-length (putFloats (w .floats) 0 seed point.zero) 0 (seed .root) point.zero, put-floats-length (w .floats) 0 seed point.zero)
+        (room .floats-room);
+    words-room = rw (put-words-length (w .words) 0 seedKind seed 0 0 0) (room .words-room);
     queue-room = rw (cleared-length (2 * n) (w .queue) (room .queue-room)) (room .queue-room);
     few = room .few;
   }

@@ -18,8 +18,10 @@ use Rattle.machine.specs.declared.Task.{Task}
 use Rattle.machine.specs.declared.Origin.{Origin}
 use Rattle.machine.specs.declared.Finish.the-variants.{Arrived, Emptied, Filled}
 use Rattle.machine.specs.declared.Outcome.the-variants.{Goes, Ends}
-use Rattle.places.specs.Layout.{nodeAt, recordFor, putRecord, putDistance, putQueued, leastIn}
-use Rattle.machine.specs.Search.{State, stateOf, Making, making, stepping, tookPlace, tookRecord, counted, recorded, queued, isBeaten, kept, placed, taken, originAt, made, madeAll, afterMaking, visited, popped, step}
+use Rattle.places.specs.Layout.{nodeAt, recordFor, putQueued, leastIn}
+use Rattle.machine.specs.Search.{State, stateOf, Making, making, stepping, tookPlace, tookRecord, counted, recorded, queued, isBeaten, kept, placed}
+use Rattle.machine.specs.Search.{taken, originAt, made, madeAll, afterMaking, visited, popped, step}
+use Rattle.machine.proofs.Fitting.{recordedFound, recordedNew}
 
 pops-recorded : (s : State) (node : Node) → recorded s node .counts .pops ≡ s .counts .pops
 unfolding recorded tookRecord
@@ -28,7 +30,7 @@ pops-recorded s node = go (ltb r (s .counts .records))
     r : ℕ
     r = recordFor (s .work .floats) (s .counts .records) (node .root)
 
-    go : (b : Bool) → (cond b (stateOf (putDistance (s .work) r (node .length)) (s .counts)) (stateOf (putRecord (s .work) r (node .root) (node .length)) (tookRecord (s .counts)))) .counts .pops ≡ s .counts .pops
+    go : (b : Bool) → (cond b (recordedFound s node) (recordedNew s node)) .counts .pops ≡ s .counts .pops
     go true = refl
     go false = refl
 
@@ -58,7 +60,9 @@ module _ (f : Floor) (t : Task) where
       value : Float
       value = add binary32 (node .length) (heuristicOf (node .root) (t .trip .goal) (node .interval))
 
-      go : (a b : Bool) → (cond a (making s false) (cond b (making s true) (making (taken (t .places) s o (kindNumber (step .kind)) node value) false))) .state .counts .pops ≡ s .counts .pops
+      go : (a b : Bool)
+          → (cond a (making s false) (cond b (making s true) (making (taken (t .places) s o (kindNumber (step .kind)) node value) false))) .state .counts .pops
+          ≡ s .counts .pops
       go true b = refl
       go false true = refl
       go false false = pops-taken (t .places) s o (kindNumber (step .kind)) node value
@@ -71,7 +75,8 @@ module _ (f : Floor) (t : Task) where
       m : Making
       m = made (f .vertices) t s o step
 
-      go : (b : Bool) → madeAll f t (m .state) o steps .state .counts .pops ≡ m .state .counts .pops → (cond b m (madeAll f t (m .state) o steps)) .state .counts .pops ≡ s .counts .pops
+      go : (b : Bool) → madeAll f t (m .state) o steps .state .counts .pops ≡ m .state .counts .pops
+          → (cond b m (madeAll f t (m .state) o steps)) .state .counts .pops ≡ s .counts .pops
       go true rest = pops-made s o step
       go false rest = rest ∙ pops-made s o step
 

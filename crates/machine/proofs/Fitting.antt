@@ -29,17 +29,19 @@ use Rattle.places.proofs.Queued.{put-queued, put-queued-tree, put-queued-room, 
 -- ---- distances on record
 
 -- a distance is put where the root's record is found, and a record where there is none
-abbrev found : State → Node → State
-found s node = stateOf (putDistance (s .work) (recordFor (s .work .floats) (s .counts .records) (node .root)) (node .length)) (s .counts)
+abbrev pub recordedFound : State → Node → State
+recordedFound s node = stateOf (putDistance (s .work) (recordFor (s .work .floats) (s .counts .records) (node .root)) (node .length)) (s .counts)
 
-abbrev new : State → Node → State
-new s node = stateOf (putRecord (s .work) (recordFor (s .work .floats) (s .counts .records) (node .root)) (node .root) (node .length)) (tookRecord (s .counts))
+abbrev pub recordedNew : State → Node → State
+recordedNew s node =
+    let r = recordFor (s .work .floats) (s .counts .records) (node .root) in
+    stateOf (putRecord (s .work) r (node .root) (node .length)) (tookRecord (s .counts))
 
 pub recorded-taken : (s : State) (node : Node) → recorded s node .counts .taken ≡ s .counts .taken
 unfolding recorded tookRecord
 recorded-taken s node = go (ltb (recordFor (s .work .floats) (s .counts .records) (node .root)) (s .counts .records))
   where
-    go : (b : Bool) → (cond b (found s node) (new s node)) .counts .taken ≡ s .counts .taken
+    go : (b : Bool) → (cond b (recordedFound s node) (recordedNew s node)) .counts .taken ≡ s .counts .taken
     go true = refl
     go false = refl
 
@@ -111,7 +113,7 @@ module _ (t : Task) where
       r : ℕ
       r = recordFor floats (s .counts .records) (node .root)
 
-      go : (b : Bool) → Fit t (cond b (found s node) (new s node))
+      go : (b : Bool) → Fit t (cond b (recordedFound s node) (recordedNew s node))
       go true =
           fit-beside s (distancePut floats r (node .length)) (s .counts) h (distance-beside floats r (node .length))
           (distance-length floats r (node .length)) refl (h .records-in)
@@ -146,7 +148,8 @@ module _ (t : Task) where
         value : Float
         value = add binary32 (node .length) (heuristicOf (node .root) (t .trip .goal) (node .interval))
 
-        go : (a b : Bool) → Fit t ((cond a (making s false) (cond b (making s true) (making (taken (t .places) s o (kindNumber (step .kind)) node value) false))) .state)
+        go : (a b : Bool)
+            → Fit t ((cond a (making s false) (cond b (making s true) (making (taken (t .places) s o (kindNumber (step .kind)) node value) false))) .state)
         go true b = h
         go false true = h
         go false false = fit-taken s o (kindNumber (step .kind)) node value h

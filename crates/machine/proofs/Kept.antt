@@ -9,7 +9,6 @@ use borrow.Author.Tests.{eqb-false, leb-false}
 use lib.Dec.{T, eqb, leb, ltb}
 use lib.Ieee.{Float, binary32, add, isNan}
 use lib.ListN.{length}
-use Rattle.point.specs.Point as point
 use Rattle.point.specs.Point.{sameOf}
 use Rattle.helpers.specs.Helpers.{heuristicOf}
 use Rattle.cut.specs.declared.SuccessorType.{SuccessorType}
@@ -33,13 +32,16 @@ use Rattle.machine.specs.declared.Origin.{Origin}
 use Rattle.machine.specs.declared.Finish.the-variants.{Arrived, Emptied, Filled, Stopped}
 use Rattle.machine.specs.declared.Outcome.{Outcome}
 use Rattle.machine.specs.declared.Outcome.the-variants.{Goes, Ends}
-use Rattle.places.specs.Layout.{Work, workOf, wordAt, nodeIn, nodeAt, stepAt, parentAt, depthAt, numberAt, fAt, isQueued, putNode, recordFor, putRecord, recordPut, putDistance, distancePut, putQueued, leastIn}
+use Rattle.places.specs.Layout.{floatsPerPlace, wordsPerPlace, polygonCell, seedKind, Work, workOf, wordAt, nodeIn, nodeAt, stepAt, parentAt, depthAt, numberAt}
+use Rattle.places.specs.Layout.{fAt, isQueued, putNode, recordFor, recordPut, distancePut, putQueued, leastIn}
 use Rattle.machine.specs.Search.{State, stateOf, tookPlace, tookRecord, counted}
 use Rattle.machine.specs.Search as search
 use Rattle.machine.specs.Sound.{isPlus, Entered, Held, Sound, OnRecord, Numbered}
-use Rattle.places.proofs.Rows.{SameFloats, SameWords, which, node-same, step-same, f-same, parent-same, depth-same, number-same, floats-elsewhere, words-elsewhere, f-put, node-put, step-put, parent-put, depth-put, number-put, record-length, record-beside, distance-length, distance-beside}
+use Rattle.places.proofs.Rows.{SameFloats, SameWords, which, node-same, step-same, f-same, parent-same, depth-same, number-same, floats-elsewhere}
+use Rattle.places.proofs.Rows.{words-elsewhere, f-put, node-put, step-put, parent-put, depth-put, number-put, record-length, record-beside, distance-length}
+use Rattle.places.proofs.Rows.{distance-beside}
 use Rattle.places.proofs.Queued.{put-queued}
-use Rattle.machine.proofs.Fitting.{recorded-taken, fit-beside, fit-placed, fit-queued}
+use Rattle.machine.proofs.Fitting.{recordedFound, recordedNew, recorded-taken, fit-beside, fit-placed, fit-queued}
 use Rattle.machine.proofs.Numbers.{made-self, on-taken, own-taken}
 use Rattle.machine.proofs.Plus.{add-plus, add-no-nan, distance-plus, heuristic-plus, plus-if}
 
@@ -55,7 +57,7 @@ module _ (plan vs ps : List ℕ) (t : Task) (seed : Node) where
   -- the rows of the places below some number are in both buffers alike
   module _ (new old : Work) (low : ℕ) (fs : (i : ℕ) → i < low → SameFloats (new .floats) (old .floats) i)
       (ws : (i : ℕ) → i < low → SameWords (new .words) (old .words) i)
-      (lefts : (i : ℕ) → i < low → wordAt (new .words) (parentAt old i) 1 ≡ wordAt (old .words) (parentAt old i) 1) where
+      (lefts : (i : ℕ) → i < low → wordAt (new .words) (parentAt old i) polygonCell ≡ wordAt (old .words) (parentAt old i) polygonCell) where
     node-kept : (i : ℕ) → i < low → nodeAt new i ≡ nodeAt old i
     node-kept i l = node-same (new .floats) (old .floats) i (fs i l) (new .words) (old .words) (ws i l) (lefts i l)
 
@@ -95,7 +97,8 @@ module _ (plan vs ps : List ℕ) (t : Task) (seed : Node) where
   -- ---- distance records
 
   -- the floats of the nodes are as they were, the counters agree: nothing else changed
-  sound-beside : (s : State) (floats : List Float) (c : Counts) → Sound plan vs ps t seed s → ((i : ℕ) → SameFloats floats (s .work .floats) i) → length floats ≡ length (s .work .floats)
+  sound-beside : (s : State) (floats : List Float) (c : Counts) → Sound plan vs ps t seed s → ((i : ℕ) → SameFloats floats (s .work .floats) i)
+      → length floats ≡ length (s .work .floats)
       → c .taken ≡ s .counts .taken → c .records ≤ c .taken → Sound plan vs ps t seed (stateOf (workOf floats (s .work .words) (s .work .queue)) c)
   sound-beside s floats c h same long taken few =
       let new = workOf floats (s .work .words) (s .work .queue) in
@@ -114,20 +117,27 @@ module _ (plan vs ps : List ℕ) (t : Task) (seed : Node) where
         no-nan = λ i l q. rw (f-same floats (s .work .floats) i (same i)) (h .no-nan i l q);
       }
 
-  pub sound-recorded : (s : State) (node : Node) → Sound plan vs ps t seed s → s .counts .records < s .counts .taken → Sound plan vs ps t seed (search.recorded s node)
+  pub sound-recorded : (s : State) (node : Node) → Sound plan vs ps t seed s → s .counts .records < s .counts .taken
+      → Sound plan vs ps t seed (search.recorded s node)
   unfolding search.recorded tookRecord
   sound-recorded s node h room = go (ltb (recordFor (s .work .floats) (s .counts .records) (node .root)) (s .counts .records))
     where
       r : ℕ
       r = recordFor (s .work .floats) (s .counts .records) (node .root)
 
-      go : (b : Bool) → Sound plan vs ps t seed (cond b (stateOf (putDistance (s .work) r (node .length)) (s .counts)) (stateOf (putRecord (s .work) r (node .root) (node .length)) (tookRecord (s .counts))))
-      go true = sound-beside s (distancePut (s .work .floats) r (node .length)) (s .counts) h (distance-beside (s .work .floats) r (node .length)) (distance-length (s .work .floats) r (node .length)) refl (h .fit .records-in)
-      go false = sound-beside s (recordPut (s .work .floats) r (node .root) (node .length)) (tookRecord (s .counts)) h (record-beside (s .work .floats) r (node .root) (node .length)) (record-length (s .work .floats) r (node .root) (node .length)) refl (omega (arith, room))
+      go : (b : Bool) → Sound plan vs ps t seed (cond b (recordedFound s node) (recordedNew s node))
+      go true =
+          sound-beside s (distancePut (s .work .floats) r (node .length)) (s .counts) h (distance-beside (s .work .floats) r (node .length))
+          (distance-length (s .work .floats) r (node .length)) refl (h .fit .records-in)
+      go false =
+          sound-beside s (recordPut (s .work .floats) r (node .root) (node .length)) (tookRecord (s .counts)) h
+          (record-beside (s .work .floats) r (node .root) (node .length)) (record-length (s .work .floats) r (node .root) (node .length)) refl
+          (omega (arith, room))
 
   -- ---- the queue
 
-  pub sound-queued : (s : State) (c : Counts) (i : ℕ) (b : Bool) → Sound plan vs ps t seed s → c .taken ≡ s .counts .taken → c .records ≡ s .counts .records → i < s .counts .taken → T (not (isNan (fAt (s .work) i)))
+  pub sound-queued : (s : State) (c : Counts) (i : ℕ) (b : Bool) → Sound plan vs ps t seed s → c .taken ≡ s .counts .taken → c .records ≡ s .counts .records
+      → i < s .counts .taken → T (not (isNan (fAt (s .work) i)))
       → Sound plan vs ps t seed (stateOf (putQueued n (s .work) i b) c)
   sound-queued s c i b h taken records low number = record {
     fit = fit-queued t s c i b (h .fit) taken records low;
@@ -136,8 +146,10 @@ module _ (plan vs ps : List ℕ) (t : Task) (seed : Node) where
     seed-node = h .seed-node;
     seed-parent = h .seed-parent;
     seed-depth = h .seed-depth;
-    held = λ j l. held-kept (putQueued n (s .work) i b) (s .work) (s .counts .taken) (λ i l k b. refl) (λ i l k b. refl) (λ i l. refl) j (rw taken at l) (h .held j (rw taken at l));
-    entered = λ j z l. entered-kept (putQueued n (s .work) i b) (s .work) (s .counts .taken) (λ i l k b. refl) (λ i l k b. refl) (λ i l. refl) j (rw taken at l) (h .entered j z (rw taken at l));
+    held = λ j l. held-kept (putQueued n (s .work) i b) (s .work) (s .counts .taken) (λ i l k b. refl) (λ i l k b. refl) (λ i l. refl) j (rw taken at l)
+        (h .held j (rw taken at l));
+    entered = λ j z l. entered-kept (putQueued n (s .work) i b) (s .work) (s .counts .taken) (λ i l k b. refl) (λ i l k b. refl) (λ i l. refl) j
+        (rw taken at l) (h .entered j z (rw taken at l));
     no-nan = λ j l q. queued-number j l (which i j) (sym (put-queued n (s .work) i b few j l) ∙ q);
   }
     where
@@ -177,7 +189,7 @@ module _ (plan vs ps : List ℕ) (t : Task) (seed : Node) where
     unfolding search.recorded
     recorded-floats i = go (ltb r (s .counts .records))
       where
-        go : (b : Bool) → SameFloats ((cond b (stateOf (putDistance (s .work) r (node .length)) (s .counts)) (stateOf (putRecord (s .work) r (node .root) (node .length)) (tookRecord (s .counts)))) .work .floats) (s .work .floats) i
+        go : (b : Bool) → SameFloats ((cond b (recordedFound s node) (recordedNew s node)) .work .floats) (s .work .floats) i
         go true = distance-beside (s .work .floats) r (node .length) i
         go false = record-beside (s .work .floats) r (node .root) (node .length) i
 
@@ -185,7 +197,7 @@ module _ (plan vs ps : List ℕ) (t : Task) (seed : Node) where
     unfolding search.recorded
     recorded-words = go (ltb r (s .counts .records))
       where
-        go : (b : Bool) → (cond b (stateOf (putDistance (s .work) r (node .length)) (s .counts)) (stateOf (putRecord (s .work) r (node .root) (node .length)) (tookRecord (s .counts)))) .work .words ≡ s .work .words
+        go : (b : Bool) → (cond b (recordedFound s node) (recordedNew s node)) .work .words ≡ s .work .words
         go true = refl
         go false = refl
 
@@ -193,8 +205,8 @@ module _ (plan vs ps : List ℕ) (t : Task) (seed : Node) where
     same-words i k b = ap (λ (ws : List ℕ). wordAt ws i k) recorded-words
 
     same-lefts : (i : ℕ) → i < s .counts .taken
-        → wordAt (search.recorded s node .work .words) (parentAt (s .work) i) 1 ≡ wordAt (s .work .words) (parentAt (s .work) i) 1
-    same-lefts i l = same-words (parentAt (s .work) i) 1 (omega arith)
+        → wordAt (search.recorded s node .work .words) (parentAt (s .work) i) polygonCell ≡ wordAt (s .work .words) (parentAt (s .work) i) polygonCell
+    same-lefts i l = same-words (parentAt (s .work) i) polygonCell (omega arith)
 
     grows-recorded : Grows s (search.recorded s node)
     grows-recorded = record {
@@ -213,7 +225,8 @@ module _ (plan vs ps : List ℕ) (t : Task) (seed : Node) where
     pub depth-is : o .depth ≡ depthAt (s .work) (o .place)
 
   module _ (g : Ground plan vs ps) where
-    module _ (s : State) (o : Origin) (step : Step) (value : Float) (h : Sound plan vs ps t seed s) (from : Origins s o) (permitted : step ∈ stepsFrom f (t .trip .to) (o .node)) (space : s .counts .taken < n) where
+    module _ (s : State) (o : Origin) (step : Step) (value : Float) (h : Sound plan vs ps t seed s) (from : Origins s o)
+        (permitted : step ∈ stepsFrom f (t .trip .to) (o .node)) (space : s .counts .taken < n) where
       abbrev node : Node
       node = enter (f .vertices) (o .node) step
 
@@ -240,7 +253,9 @@ module _ (plan vs ps : List ℕ) (t : Task) (seed : Node) where
 
       pub node-plus : T (isPlus (node .length))
       unfolding enter
-      node-plus = plus-if (sameOf (rootAfter (f .vertices) (o .node) (step .kind)) (o .node .root)) _ _ origin-plus (add-plus binary32 _ _ origin-plus (distance-plus _ _))
+      node-plus =
+          plus-if (sameOf (rootAfter (f .vertices) (o .node) (step .kind)) (o .node .root)) _ _ origin-plus
+          (add-plus binary32 _ _ origin-plus (distance-plus _ _))
 
       node-points : node .points ≤ o .node .points + 1
       unfolding enter
@@ -251,31 +266,34 @@ module _ (plan vs ps : List ℕ) (t : Task) (seed : Node) where
           go false = omega arith
 
       origin-points : o .node .points ≤ o .depth
-      origin-points = subst (λ (m : Node). m .points ≤ o .depth) (sym (from .node-is)) (subst (λ (d : ℕ). nodeAt (s .work) (o .place) .points ≤ d) (sym (from .depth-is)) (origin-held .points-few))
+      origin-points =
+          subst (λ (m : Node). m .points ≤ o .depth) (sym (from .node-is))
+          (subst (λ (d : ℕ). nodeAt (s .work) (o .place) .points ≤ d) (sym (from .depth-is)) (origin-held .points-few))
 
       origin-depth : o .depth ≤ o .place
       origin-depth = subst (λ (d : ℕ). d ≤ o .place) (sym (from .depth-is)) (origin-held .depth-few)
 
-      floats-room : (i + 1) * 11 ≤ length (s .work .floats)
+      floats-room : (i + 1) * floatsPerPlace ≤ length (s .work .floats)
       floats-room = omega (arith, h .fit .room .floats-room, space)
 
-      words-room : (i + 1) * 8 ≤ length (s .work .words)
+      words-room : (i + 1) * wordsPerPlace ≤ length (s .work .words)
       words-room = omega (arith, h .fit .room .words-room, space)
 
-      seed-kind : eqb kind 1 ≡ node .seed
+      seed-kind : eqb kind seedKind ≡ node .seed
       unfolding enter kindNumber
       seed-kind = go (step .kind)
         where
-          go : (k : SuccessorType) → eqb (kindNumber k) 1 ≡ false
+          go : (k : SuccessorType) → eqb (kindNumber k) seedKind ≡ false
           go Observable = refl
           go RightNonObservable = refl
           go LeftNonObservable = refl
 
       -- the polygon that it left is its parent's
-      its-left : wordAt (new .words) (o .place) 1 ≡ node .left
+      its-left : wordAt (new .words) (o .place) polygonCell ≡ node .left
       unfolding enter nodeIn
       its-left =
-          words-elsewhere (s .work .words) i kind node (o .place) (o .depth + 1) number (o .place) 1 (omega arith) (λ e. omega (arith, e, from .place-in))
+          words-elsewhere (s .work .words) i kind node (o .place) (o .depth + 1) number (o .place) polygonCell (omega arith)
+          (λ e. omega (arith, e, from .place-in))
           ∙ sym (ap (λ (m : Node). m .polygon) (from .node-is))
 
       pub its-node : nodeAt new i ≡ node
@@ -283,7 +301,8 @@ module _ (plan vs ps : List ℕ) (t : Task) (seed : Node) where
 
       its-step : stepAt new i ≡ step
       unfolding enter
-      its-step = step-put (s .work .words) i kind node (o .place) (o .depth + 1) number words-room (s .work .floats) value floats-room step refl refl refl refl refl
+      its-step =
+          step-put (s .work .words) i kind node (o .place) (o .depth + 1) number words-room (s .work .floats) value floats-room step refl refl refl refl refl
 
       its-parent : parentAt new i ≡ o .place
       its-parent = parent-put (s .work .words) i kind node (o .place) (o .depth + 1) number words-room
@@ -305,8 +324,8 @@ module _ (plan vs ps : List ℕ) (t : Task) (seed : Node) where
       parent-low zero l = omega (arith, h .seed-parent, h .some)
       parent-low (suc j) l = omega (arith, h .entered (suc j) (omega arith) l .lower, l)
 
-      lefts-below : (j : ℕ) → j < i → wordAt (new .words) (parentAt (s .work) j) 1 ≡ wordAt (s .work .words) (parentAt (s .work) j) 1
-      lefts-below j l = words-below (parentAt (s .work) j) (parent-low j l) 1 (omega arith)
+      lefts-below : (j : ℕ) → j < i → wordAt (new .words) (parentAt (s .work) j) polygonCell ≡ wordAt (s .work .words) (parentAt (s .work) j) polygonCell
+      lefts-below j l = words-below (parentAt (s .work) j) (parent-low j l) polygonCell (omega arith)
 
       pub node-below : (j : ℕ) → j < i → nodeAt new j ≡ nodeAt (s .work) j
       node-below = node-kept new (s .work) i floats-below words-below lefts-below
@@ -389,7 +408,9 @@ module _ (plan vs ps : List ℕ) (t : Task) (seed : Node) where
         where
           go : (b : Bool) → Sound plan vs ps t seed (cond b put-down (stateOf (putQueued n (recorded-down .work) i true) (recorded-down .counts)))
           go true = sound-placed
-          go false = sound-queued recorded-down (recorded-down .counts) i true (sound-recorded put-down node sound-placed records-left) refl refl (rw (recorded-taken put-down node, taken-down) (omega arith)) (rw f-down number)
+          go false =
+              sound-queued recorded-down (recorded-down .counts) i true (sound-recorded put-down node sound-placed records-left) refl refl
+              (rw (recorded-taken put-down node, taken-down) (omega arith)) (rw f-down number)
 
       grows-placed : Grows s put-down
       unfolding search.placed tookPlace
@@ -401,7 +422,10 @@ module _ (plan vs ps : List ℕ) (t : Task) (seed : Node) where
         where
           go : (b : Bool) → Grows s (cond b put-down (stateOf (putQueued n (recorded-down .work) i true) (recorded-down .counts)))
           go true = grows-placed
-          go false = grows-on s recorded-down (stateOf (putQueued n (recorded-down .work) i true) (recorded-down .counts)) (grows-on s put-down recorded-down grows-placed (grows-recorded put-down node)) (record { more = omega arith; node-as = λ j l. refl; depth-as = λ j l. refl; number-as = λ j l. refl })
+          go false =
+              grows-on s recorded-down (stateOf (putQueued n (recorded-down .work) i true) (recorded-down .counts))
+              (grows-on s put-down recorded-down grows-placed (grows-recorded put-down node))
+              (record { more = omega arith; node-as = λ j l. refl; depth-as = λ j l. refl; number-as = λ j l. refl })
 
       -- ---- it keeps the number of its root's record
 
@@ -439,7 +463,9 @@ module _ (plan vs ps : List ℕ) (t : Task) (seed : Node) where
           own = rw (node-taken, number-taken) (own-taken node self n s o kind value (omega (arith, h .fit .records-in, h .fit .room .floats-room, space)))
 
           go : (j < i) ⊎ ((j ≡ i) ⊎ (i < j)) → OnRecord after (nodeAt (after .work) j .root) (numberAt (after .work) j)
-          go (inl d) = rw (grows-taken .node-as j d, grows-taken .number-as j d) (on-taken (nodeAt (s .work) j .root) (numberAt (s .work) j) n s o kind node value (numbered j d))
+          go (inl d) =
+              rw (grows-taken .node-as j d, grows-taken .number-as j d)
+              (on-taken (nodeAt (s .work) j .root) (numberAt (s .work) j) n s o kind node value (numbered j d))
           go (inr (inl e)) = subst (λ (m : ℕ). OnRecord after (nodeAt (after .work) m .root) (numberAt (after .work) m)) (sym e) own
           go (inr (inr d)) = absurd (omega (arith, taken-one, l, d))
 
@@ -461,41 +487,65 @@ module _ (plan vs ps : List ℕ) (t : Task) (seed : Node) where
       depth-is = from .depth-is ∙ sym (g .depth-as (o .place) (from .place-in));
     }
 
-    pub sound-made : (s : State) (o : Origin) (step : Step) → Sound plan vs ps t seed s → Origins s o → step ∈ stepsFrom f (t .trip .to) (o .node) → Makes s o (search.made (f .vertices) t s o step .state)
+    pub sound-made : (s : State) (o : Origin) (step : Step) → Sound plan vs ps t seed s → Origins s o → step ∈ stepsFrom f (t .trip .to) (o .node)
+        → Makes s o (search.made (f .vertices) t s o step .state)
     unfolding search.made
-    sound-made s o step h from permitted = go (isNan (enter (f .vertices) (o .node) step .length)) refl (isNan (heuristicOf (enter (f .vertices) (o .node) step .root) (t .trip .goal) (enter (f .vertices) (o .node) step .interval))) refl (leb n (s .counts .taken)) refl
+    sound-made s o step h from permitted = go (isNan (node' .length)) refl (isNan heuristic') refl (leb n (s .counts .taken)) refl
       where
         node' : Node
         node' = enter (f .vertices) (o .node) step
 
+        heuristic' : Float
+        heuristic' = heuristicOf (node' .root) (t .trip .goal) (node' .interval)
+
         value' : Float
-        value' = add binary32 (node' .length) (heuristicOf (node' .root) (t .trip .goal) (node' .interval))
+        value' = add binary32 (node' .length) heuristic'
+
+        made' : search.Making
+        made' = search.making (search.taken n s o (kindNumber (step .kind)) node' value') false
 
         no : (b : Bool) → b ≡ false → T (not b)
         no b e = subst (λ (c : Bool). T (not c)) (sym e) tt
 
-        go : (a : Bool) → isNan (node' .length) ≡ a → (b : Bool) → isNan (heuristicOf (node' .root) (t .trip .goal) (node' .interval)) ≡ b → (c : Bool) → leb n (s .counts .taken) ≡ c
-            → Makes s o ((cond (a || b) (search.making s false) (cond c (search.making s true) (search.making (search.taken n s o (kindNumber (step .kind)) node' value') false))) .state)
+        go : (a : Bool) → isNan (node' .length) ≡ a → (b : Bool) → isNan heuristic' ≡ b → (c : Bool) → leb n (s .counts .taken) ≡ c
+            → Makes s o ((cond (a || b) (search.making s false) (cond c (search.making s true) made')) .state)
         go true x b y c z = record { sound = h; grows = grows-self s; numbered = λ m. m }
         go false x true y c z = record { sound = h; grows = grows-self s; numbered = λ m. m }
         go false x false y true z = record { sound = h; grows = grows-self s; numbered = λ m. m }
-        go false x false y false z = record {
-          sound = sound-taken s o step value' h from permitted (leb-false n (s .counts .taken) z) (add-no-nan binary32 _ _ (node-plus s o step value' h from permitted (leb-false n (s .counts .taken) z)) (heuristic-plus _ _ _) (no _ x) (no _ y));
-          grows = grows-taken s o step value' h from permitted (leb-false n (s .counts .taken) z);
-          numbered = numbered-taken s o step value' h from permitted (leb-false n (s .counts .taken) z) (made-self (f .vertices) (o .node) step x);
-        }
+        go false x false y false z =
+            let space = leb-false n (s .counts .taken) z in
+            let plus = node-plus s o step value' h from permitted space in
+            record {
+              sound = sound-taken s o step value' h from permitted space (add-no-nan binary32 _ _ plus (heuristic-plus _ _ _) (no _ x) (no _ y));
+              grows = grows-taken s o step value' h from permitted space;
+              numbered = numbered-taken s o step value' h from permitted space (made-self (f .vertices) (o .node) step x);
+            }
 
-    pub sound-made-all : (steps : List Step) (s : State) (o : Origin) → Sound plan vs ps t seed s → Origins s o → ((step : Step) → step ∈ steps → step ∈ stepsFrom f (t .trip .to) (o .node)) → Makes s o (search.madeAll f t s o steps .state)
+    pub sound-made-all : (steps : List Step) (s : State) (o : Origin) → Sound plan vs ps t seed s → Origins s o
+        → ((step : Step) → step ∈ steps → step ∈ stepsFrom f (t .trip .to) (o .node)) → Makes s o (search.madeAll f t s o steps .state)
     unfolding search.madeAll
     sound-made-all [] s o h from permitted = record { sound = h; grows = grows-self s; numbered = λ m. m }
     sound-made-all (step ∷ steps) s o h from permitted =
         let m = sound-made s o step h from (permitted step (List·Memᴰ·head refl)) in
-        go (search.made (f .vertices) t s o step .full) m (sound-made-all steps (search.made (f .vertices) t s o step .state) o (m .sound) (origins-on s (search.made (f .vertices) t s o step .state) o (m .grows) from) (λ x e. permitted x (List·Memᴰ·tail e)))
+        let on = origins-on s next o (m .grows) from in
+        go (made' .full) m (sound-made-all steps next o (m .sound) on (λ x e. permitted x (List·Memᴰ·tail e)))
       where
-        go : (b : Bool) → Makes s o (search.made (f .vertices) t s o step .state) → Makes (search.made (f .vertices) t s o step .state) o (search.madeAll f t (search.made (f .vertices) t s o step .state) o steps .state)
-            → Makes s o ((cond b (search.made (f .vertices) t s o step) (search.madeAll f t (search.made (f .vertices) t s o step .state) o steps)) .state)
+        made' : search.Making
+        made' = search.made (f .vertices) t s o step
+
+        next : State
+        next = made' .state
+
+        rest : search.Making
+        rest = search.madeAll f t next o steps
+
+        go : (b : Bool) → Makes s o next → Makes next o (rest .state) → Makes s o ((cond b made' rest) .state)
         go true m r = m
-        go false m r = record { sound = r .sound; grows = grows-on s (search.made (f .vertices) t s o step .state) (search.madeAll f t (search.made (f .vertices) t s o step .state) o steps .state) (m .grows) (r .grows); numbered = λ x. r .numbered (m .numbered x) }
+        go false m r = record {
+          sound = r .sound;
+          grows = grows-on s next (rest .state) (m .grows) (r .grows);
+          numbered = λ x. r .numbered (m .numbered x);
+        }
 
     -- ---- a step
 
@@ -522,7 +572,8 @@ module _ (plan vs ps : List ℕ) (t : Task) (seed : Node) where
         go true = record { sound = h; arrives = tt }
         go false = record { sound = h; arrives = tt }
 
-    own-steps : (s : State) (i : ℕ) (x : Step) → x ∈ stepsFrom f (t .trip .to) (nodeAt (s .work) i) → x ∈ stepsFrom f (t .trip .to) (search.originAt (s .work) i .node)
+    own-steps : (s : State) (i : ℕ) (x : Step) → x ∈ stepsFrom f (t .trip .to) (nodeAt (s .work) i)
+        → x ∈ stepsFrom f (t .trip .to) (search.originAt (s .work) i .node)
     unfolding search.originAt
     own-steps s i x m = m
 
@@ -543,19 +594,23 @@ module _ (plan vs ps : List ℕ) (t : Task) (seed : Node) where
         go false false e = after-making (search.madeAll f t s o steps) (sound-made-all steps s o h (origin-of s i l) (own-steps s i) .sound)
 
     -- the place that is popped is one that is queued, and so taken
-    pub popped-queued : (s : State) → Sound plan vs ps t seed s → eqb (leastIn n (s .work)) none ≡ false → (leastIn n (s .work) < n) × (isQueued n (s .work) (leastIn n (s .work)) ≡ true)
-    popped-queued s h e = ⊎-elim (λ x. absurd (eqb-false _ _ e x)) (λ x. x) (least-held (fAt (s .work)) n (isQueued n (s .work)) (omega (arith, h .fit .room .few)))
+    pub popped-queued : (s : State) → Sound plan vs ps t seed s → eqb (leastIn n (s .work)) none ≡ false
+        → (leastIn n (s .work) < n) × (isQueued n (s .work) (leastIn n (s .work)) ≡ true)
+    popped-queued s h e =
+        ⊎-elim (λ x. absurd (eqb-false _ _ e x)) (λ x. x) (least-held (fAt (s .work)) n (isQueued n (s .work)) (omega (arith, h .fit .room .few)))
 
     pub popped-taken : (s : State) → Sound plan vs ps t seed s → eqb (leastIn n (s .work)) none ≡ false → leastIn n (s .work) < s .counts .taken
     popped-taken s h e = let q = popped-queued s h e in h .fit .queue .below (leastIn n (s .work)) (q .0) (q .1)
 
-    pub sound-popped : (s : State) → Sound plan vs ps t seed s → eqb (leastIn n (s .work)) none ≡ false → Sound plan vs ps t seed (search.popped f t s (leastIn n (s .work)))
+    pub sound-popped : (s : State) → Sound plan vs ps t seed s → eqb (leastIn n (s .work)) none ≡ false
+        → Sound plan vs ps t seed (search.popped f t s (leastIn n (s .work)))
     unfolding search.popped counted
     sound-popped s h e =
         let q = popped-queued s h e in
         sound-queued s (counted (s .counts)) (leastIn n (s .work)) false h refl refl (popped-taken s h e) (h .no-nan (leastIn n (s .work)) (q .0) (q .1))
 
-    popped-below : (s : State) → Sound plan vs ps t seed s → eqb (leastIn n (s .work)) none ≡ false → leastIn n (s .work) < search.popped f t s (leastIn n (s .work)) .counts .taken
+    popped-below : (s : State) → Sound plan vs ps t seed s → eqb (leastIn n (s .work)) none ≡ false
+        → leastIn n (s .work) < search.popped f t s (leastIn n (s .work)) .counts .taken
     unfolding search.popped counted
     popped-below = popped-taken
 
@@ -578,10 +633,14 @@ module _ (plan vs ps : List ℕ) (t : Task) (seed : Node) where
         steps : List Step
         steps = stepsFrom f (t .trip .to) (nodeAt (s .work) i)
 
-        go : (a b : Bool) → Numbered ((cond a (search.stepping s Goes) (cond b (search.stepping s (Ends (Arrived i))) (search.afterMaking f t (search.madeAll f t s o steps)))) .state)
+        made' : search.Making
+        made' = search.madeAll f t s o steps
+
+        go : (a b : Bool)
+            → Numbered ((cond a (search.stepping s Goes) (cond b (search.stepping s (Ends (Arrived i))) (search.afterMaking f t made'))) .state)
         go true b = numbered
         go false true = numbered
-        go false false = numbered-after (search.madeAll f t s o steps) (sound-made-all steps s o h (origin-of s i l) (own-steps s i) .numbered numbered)
+        go false false = numbered-after made' (sound-made-all steps s o h (origin-of s i l) (own-steps s i) .numbered numbered)
 
     pub numbered-popped : (s : State) (i : ℕ) → Numbered s → Numbered (search.popped f t s i)
     unfolding search.popped counted
@@ -591,9 +650,15 @@ module _ (plan vs ps : List ℕ) (t : Task) (seed : Node) where
     unfolding search.step
     numbered-step s h numbered = go (eqb (leastIn n (s .work)) none) refl
       where
-        go : (b : Bool) → eqb (leastIn n (s .work)) none ≡ b → Numbered ((cond b (search.stepping s (Ends Emptied)) (search.visited f t (search.popped f t s (leastIn n (s .work))) (leastIn n (s .work)))) .state)
+        least : ℕ
+        least = leastIn n (s .work)
+
+        next : State
+        next = search.popped f t s least
+
+        go : (b : Bool) → eqb least none ≡ b → Numbered ((cond b (search.stepping s (Ends Emptied)) (search.visited f t next least)) .state)
         go true e = numbered
-        go false e = numbered-visited (search.popped f t s (leastIn n (s .work))) (leastIn n (s .work)) (sound-popped s h e) (popped-below s h e) (numbered-popped s (leastIn n (s .work)) numbered)
+        go false e = numbered-visited next least (sound-popped s h e) (popped-below s h e) (numbered-popped s least numbered)
 
     -- ---- a step goes on
 
@@ -601,9 +666,15 @@ module _ (plan vs ps : List ℕ) (t : Task) (seed : Node) where
     unfolding search.step
     sound-step s h = go (eqb (leastIn n (s .work)) none) refl
       where
-        go : (b : Bool) → eqb (leastIn n (s .work)) none ≡ b → Steps (cond b (search.stepping s (Ends Emptied)) (search.visited f t (search.popped f t s (leastIn n (s .work))) (leastIn n (s .work))))
+        least : ℕ
+        least = leastIn n (s .work)
+
+        next : State
+        next = search.popped f t s least
+
+        go : (b : Bool) → eqb least none ≡ b → Steps (cond b (search.stepping s (Ends Emptied)) (search.visited f t next least))
         go true e = record { sound = h; arrives = tt }
-        go false e = sound-visited (search.popped f t s (leastIn n (s .work))) (leastIn n (s .work)) (sound-popped s h e) (popped-below s h e)
+        go false e = sound-visited next least (sound-popped s h e) (popped-below s h e)
 
     -- ---- a run
 
@@ -621,7 +692,8 @@ module _ (plan vs ps : List ℕ) (t : Task) (seed : Node) where
         go false = record { sound = h; arrives = tt }
     sound-run (suc budget) s h = go (search.step f t s .outcome) (sound-step s h .arrives) (sound-step s h .sound) (sound-run budget)
       where
-        go : (o : Outcome) → Arrives (search.step f t s .state) o → Sound plan vs ps t seed (search.step f t s .state) → ((u : State) → Sound plan vs ps t seed u → Finishes (search.run f t budget u))
+        go : (o : Outcome) → Arrives (search.step f t s .state) o → Sound plan vs ps t seed (search.step f t s .state)
+            → ((u : State) → Sound plan vs ps t seed u → Finishes (search.run f t budget u))
             → Finishes (search.onwards f t (search.step f t s .state) o (search.run f t budget))
         go Goes a h next = next (search.step f t s .state) h
         go (Ends finish) a h next = record { sound = h; arrives = a }

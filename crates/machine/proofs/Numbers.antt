@@ -21,13 +21,15 @@ use Rattle.steps.specs.declared.Node.{Node}
 use Rattle.steps.specs.declared.Permitted.{Permitted}
 use Rattle.steps.specs.declared.Permitted.the-variants.{Yes, No}
 use Rattle.steps.specs.Steps.{enter, rootAfter}
-use Rattle.places.specs.Layout.{recordRoot, recordFor, recordDistance, recordPut, putRecord, distancePut, putDistance, putQueued}
+use Rattle.places.specs.Layout.{floatsPerPlace, recordRoot, recordFor, recordDistance, recordPut, distancePut, putQueued}
 use Rattle.places.proofs.Rows.{put-floats-length}
-use Rattle.places.proofs.Records.{same-itself, same-self, record-root-distance, record-root-below, record-root-there, record-for-le, record-for-same, record-for-more, record-for-new, record-for-put}
+use Rattle.places.proofs.Records.{same-itself, same-self, record-root-distance, record-root-below, record-root-there, record-for-le, record-for-same}
+use Rattle.places.proofs.Records.{record-for-more, record-for-new, record-for-put}
 use Rattle.machine.specs.declared.Task.{Task}
 use Rattle.machine.specs.declared.Origin.{Origin}
 use Rattle.machine.specs.Search.{State, stateOf, making, tookPlace, tookRecord, beatenIn, recorded, queued, isBeaten, kept, placed, taken, made, madeIf}
 use Rattle.machine.specs.Sound.{OnRecord}
+use Rattle.machine.proofs.Fitting.{recordedFound, recordedNew}
 
 -- ---- a root that a made node has is the same as itself
 
@@ -90,7 +92,8 @@ made-self vertices node step = go (sameOf root (node .root)) refl
     root : Point
     root = rootAfter vertices node (step .kind)
 
-    go : (b : Bool) → sameOf root (node .root) ≡ b → isNan (cond b (node .length) (add binary32 (node .length) (distanceOf (node .root) root))) ≡ false → sameOf root root ≡ true
+    go : (b : Bool) → sameOf root (node .root) ≡ b → isNan (cond b (node .length) (add binary32 (node .length) (distanceOf (node .root) root))) ≡ false
+        → sameOf root root ≡ true
     go true e h = same-self root (node .root) e
     go false e h = leg-self (node .length) (node .root) root h
 
@@ -107,12 +110,18 @@ module _ (root : Point) (r : ℕ) where
       k : ℕ
       k = recordFor fs (s .counts .records) (node .root)
 
-      go : (b : Bool) → ltb k (s .counts .records) ≡ b → OnRecord (cond b (stateOf (putDistance (s .work) k (node .length)) (s .counts)) (stateOf (putRecord (s .work) k (node .root) (node .length)) (tookRecord (s .counts)))) root r
-      go true e = record { found = record-for-same (distancePut fs k (node .length)) fs (s .counts .records) root (λ j l. record-root-distance fs k (node .length) j) ∙ h .found; low = h .low }
+      go : (b : Bool) → ltb k (s .counts .records) ≡ b → OnRecord (cond b (recordedFound s node) (recordedNew s node)) root r
+      go true e =
+          record {
+            found = record-for-same (distancePut fs k (node .length)) fs (s .counts .records) root
+                (λ j l. record-root-distance fs k (node .length) j) ∙ h .found;
+            low = h .low;
+          }
       go false e =
           let above = ltb-false k (s .counts .records) e in
           record {
-            found = record-for-more (recordPut fs k (node .root) (node .length)) fs (s .counts .records) root (λ j l. record-root-below fs k (node .root) (node .length) j (omega (arith, above, l))) (omega (arith, h .found, h .low)) ∙ h .found;
+            found = record-for-more (recordPut fs k (node .root) (node .length)) fs (s .counts .records) root
+                (λ j l. record-root-below fs k (node .root) (node .length) j (omega (arith, above, l))) (omega (arith, h .found, h .low)) ∙ h .found;
             low = omega (arith, h .low);
           }
 
@@ -146,7 +155,10 @@ module _ (root : Point) (r : ℕ) where
         value : Float
         value = add binary32 (node .length) (heuristicOf (node .root) (t .trip .goal) (node .interval))
 
-        go : (a b : Bool) → OnRecord ((cond a (making s false) (cond b (making s true) (making (taken (t .places) s o (kindNumber (step .kind)) node value) false))) .state) root r
+        after : State
+        after = taken (t .places) s o (kindNumber (step .kind)) node value
+
+        go : (a b : Bool) → OnRecord ((cond a (making s false) (cond b (making s true) (making after false))) .state) root r
         go true b = h
         go false true = h
         go false false = on-taken (t .places) s o (kindNumber (step .kind)) node value h
@@ -169,7 +181,8 @@ beaten-low fs records node h = go (ltb k records) refl h
     go false e h = untrue h
 
 module _ (node : Node) (self : sameOf (node .root) (node .root) ≡ true) where
-  own-recorded : (s : State) → (s .counts .records + 1) * 11 ≤ length (s .work .floats) → OnRecord (recorded s node) (node .root) (recordFor (s .work .floats) (s .counts .records) (node .root))
+  own-recorded : (s : State) → (s .counts .records + 1) * floatsPerPlace ≤ length (s .work .floats)
+      → OnRecord (recorded s node) (node .root) (recordFor (s .work .floats) (s .counts .records) (node .root))
   unfolding recorded tookRecord
   own-recorded s room = go (ltb k (s .counts .records)) refl
     where
@@ -179,18 +192,27 @@ module _ (node : Node) (self : sameOf (node .root) (node .root) ≡ true) where
       k : ℕ
       k = recordFor fs (s .counts .records) (node .root)
 
-      go : (b : Bool) → ltb k (s .counts .records) ≡ b → OnRecord (cond b (stateOf (putDistance (s .work) k (node .length)) (s .counts)) (stateOf (putRecord (s .work) k (node .root) (node .length)) (tookRecord (s .counts)))) (node .root) k
-      go true e = record { found = record-for-same (distancePut fs k (node .length)) fs (s .counts .records) (node .root) (λ j l. record-root-distance fs k (node .length) j); low = ltb-true k (s .counts .records) e }
+      go : (b : Bool) → ltb k (s .counts .records) ≡ b → OnRecord (cond b (recordedFound s node) (recordedNew s node)) (node .root) k
+      go true e =
+          record {
+            found = record-for-same (distancePut fs k (node .length)) fs (s .counts .records) (node .root)
+                (λ j l. record-root-distance fs k (node .length) j);
+            low = ltb-true k (s .counts .records) e;
+          }
       go false e =
           let above = ltb-false k (s .counts .records) e in
           let last : k ≡ s .counts .records = omega (arith, above, record-for-le fs (s .counts .records) (node .root)) in
-          let there : recordRoot (recordPut fs k (node .root) (node .length)) (s .counts .records) ≡ node .root = subst (λ (m : ℕ). recordRoot (recordPut fs k (node .root) (node .length)) m ≡ node .root) last (record-root-there fs k (node .root) (node .length) (omega (arith, last, room))) in
+          let there : recordRoot (recordPut fs k (node .root) (node .length)) (s .counts .records) ≡ node .root
+          = subst (λ (m : ℕ). recordRoot (recordPut fs k (node .root) (node .length)) m ≡ node .root) last
+          (record-root-there fs k (node .root) (node .length) (omega (arith, last, room))) in
           record {
-            found = record-for-new (recordPut fs k (node .root) (node .length)) fs (s .counts .records) (node .root) (λ j l. record-root-below fs k (node .root) (node .length) j (omega (arith, last, l))) above there self ∙ sym last;
+            found = record-for-new (recordPut fs k (node .root) (node .length)) fs (s .counts .records) (node .root)
+                (λ j l. record-root-below fs k (node .root) (node .length) j (omega (arith, last, l))) above there self ∙ sym last;
             low = omega (arith, last);
           }
 
-  own-kept : (n : ℕ) (s : State) (i : ℕ) → (s .counts .records + 1) * 11 ≤ length (s .work .floats) → OnRecord (kept n s i node) (node .root) (recordFor (s .work .floats) (s .counts .records) (node .root))
+  own-kept : (n : ℕ) (s : State) (i : ℕ) → (s .counts .records + 1) * floatsPerPlace ≤ length (s .work .floats)
+      → OnRecord (kept n s i node) (node .root) (recordFor (s .work .floats) (s .counts .records) (node .root))
   unfolding kept queued
   own-kept n s i room = go (isBeaten s node) refl
     where
@@ -205,8 +227,10 @@ module _ (node : Node) (self : sameOf (node .root) (node .root) ≡ true) where
       go false e = let m = own-recorded s room in record { found = m .found; low = m .low }
 
   -- the node that takes a place keeps its own
-  pub own-taken : (n : ℕ) (s : State) (o : Origin) (kind : ℕ) (f : Float) → (s .counts .records + 1) * 11 ≤ length (s .work .floats) → OnRecord (taken n s o kind node f) (node .root) (recordFor (s .work .floats) (s .counts .records) (node .root))
+  pub own-taken : (n : ℕ) (s : State) (o : Origin) (kind : ℕ) (f : Float) → (s .counts .records + 1) * floatsPerPlace ≤ length (s .work .floats)
+      → OnRecord (taken n s o kind node f) (node .root) (recordFor (s .work .floats) (s .counts .records) (node .root))
   unfolding taken placed tookPlace
   own-taken n s o kind f room =
       let m = own-kept n (placed s o kind node f) (s .counts .taken) (rw (put-floats-length (s .work .floats) (s .counts .taken) node f) room) in
-      record { found = m .found ∙ record-for-put (s .work .floats) (s .counts .taken) node f (s .counts .records) (node .root); low = rw (record-for-put (s .work .floats) (s .counts .taken) node f (s .counts .records) (node .root)) at (m .low) }
+      let same = record-for-put (s .work .floats) (s .counts .taken) node f (s .counts .records) (node .root) in
+      record { found = m .found ∙ same; low = rw same at (m .low) }

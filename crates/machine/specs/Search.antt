@@ -24,7 +24,8 @@ use Rattle.machine.specs.declared.Finish.the-variants.{Arrived, Emptied,
 use Rattle.machine.specs.declared.Outcome.{Outcome}
 use Rattle.machine.specs.declared.Outcome.the-variants.{Goes, Ends}
 use Rattle.machine.specs.declared.Origin.{Origin}
-use Rattle.places.specs.Layout.{Work, nodeAt, depthAt, numberAt, putNode, recordDistance, recordFor, putRecord, putDistance, leastIn, putQueued, emptied}
+use Rattle.places.specs.Layout.{seedKind, Work, nodeAt, depthAt, numberAt, putNode, recordDistance, recordFor, putRecord, putDistance, leastIn, putQueued}
+use Rattle.places.specs.Layout.{emptied}
 
 -- ---- states
 
@@ -114,7 +115,8 @@ unfoldable pub originAt : Work → ℕ → Origin
 originAt w i = record { place = i; depth = depthAt w i; number = numberAt w i; node = nodeAt w i }
 
 module _ (vertices : List Point) (t : Task) where
-  -- "A made node takes distance plus the leg when the root changed, and the heuristic; NaN in either makes nothing." "11: a node needs a place and none is left"
+  -- "A made node takes distance plus the leg when the root changed, and the heuristic; NaN in either makes nothing."
+  -- "11: a node needs a place and none is left"
   unfoldable pub made : State → Origin → Step → Making
   made s from step =
       let node = enter vertices (from .node) step in
@@ -172,7 +174,7 @@ module _ (f : Floor) (t : Task) where
 
   -- "place 0 is the seed with distance 0", and the start is on record with it; nothing is queued
   unfoldable pub planted : Node → Work → Work
-  planted seed w = putRecord (putNode (emptied (t .places) w) 0 1 seed point.zero 0 0 0) 0 (seed .root) point.zero
+  planted seed w = putRecord (putNode (emptied (t .places) w) 0 seedKind seed point.zero 0 0 0) 0 (seed .root) point.zero
 
   unfoldable pub begun : Node → Work → State
   begun seed w = stateOf (planted seed w) (record { taken = 1; records = 1; pops = 0 })

@@ -1,7 +1,7 @@
 -- What holds of every state that a search comes through: each place below `taken` holds the seed or a node that a permitted step led to from a lower place, and
--- the queue's words are the tree of some of these places; and each place keeps the number of its root's record. Below the door the functions ask for it. Definitions
--- only. Assumes nothing.
-use Prim.Native.Nat.{ℕ, _+_, _*_, _/_, _≤_, _<_}
+-- the queue's words are the tree of some of these places; and each place keeps the number of its root's record. Below the door the functions ask for it.
+-- Definitions only. Assumes nothing.
+use Prim.Native.Nat.{ℕ, _+_, _≤_, _<_}
 use mathlib.Core.Path.{_≡_}
 use mathlib.Core.Bool.{Bool, true, not}
 use mathlib.Core.List.{List}
@@ -17,7 +17,7 @@ use Rattle.going.specs.Going.{Stands}
 use Rattle.queue.specs.Queue.{Tree, NoNan}
 use Rattle.machine.specs.declared.Task.{Task}
 use Rattle.machine.specs.declared.Origin.{Origin}
-use Rattle.places.specs.Layout.{Work, Room, nodeAt, stepAt, parentAt, depthAt, numberAt, fAt, isQueued, recordFor}
+use Rattle.places.specs.Layout.{mostPlaces, Work, Room, nodeAt, stepAt, parentAt, depthAt, numberAt, fAt, isQueued, recordFor}
 use Rattle.machine.specs.Search.{State}
 
 -- a float without a minus sign, or NaN
@@ -90,9 +90,9 @@ pub record SoundFrom (plan vertices polygons : List ℕ) (t : Task) (s : State) 
 -- what a state and a place in it ask for each other
 pub record Leaving (s : State) (o : Origin) : Type 0 where
   pub on-record : OnRecord s (o .node .root) (o .number)
-  pub place-few : o .place ≤ 4096
-  pub depth-few : o .depth ≤ 4096
-  pub points-few : o .node .points ≤ 4096
+  pub place-few : o .place ≤ mostPlaces
+  pub depth-few : o .depth ≤ mostPlaces
+  pub points-few : o .node .points ≤ mostPlaces
 
 pub record Leaves (plan vertices polygons : List ℕ) (s : State) (o : Origin) : Type 0 where
   pub stands : Stands plan vertices polygons (o .node)

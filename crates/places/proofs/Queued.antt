@@ -14,7 +14,7 @@ use Rattle.queue.specs.Words.{column, queuedIn}
 use Rattle.queue.proofs.Scan.{least-same}
 use Rattle.queue.proofs.Words.{tree-same}
 use Rattle.queue.proofs.Queued.{put-same, put-other, queue-length, queue-behind, queue-says, queue-own-tree, queue-root}
-use Rattle.places.specs.Layout.{Work, Room, fAt, putFloats, isQueued, leastIn, putQueued}
+use Rattle.places.specs.Layout.{floatsPerPlace, fCell, Work, Room, fAt, putFloats, isQueued, leastIn, putQueued}
 use Rattle.places.proofs.Rows.{SameFloats, f-same, floats-elsewhere}
 
 -- ---- a place queued, or not
@@ -58,20 +58,22 @@ module _ (n : ℕ) (w : Work) (i : ℕ) (b : Bool) where
 
 -- ---- other floats
 
-module _ (n : ℕ) (few : n ≤ none) (old : List Float) (t : List ℕ) (tree : Tree (column old 11 7) n (queuedIn n t) t) where
+module _ (n : ℕ) (few : n ≤ none) (old : List Float) (t : List ℕ) (tree : Tree (column old floatsPerPlace fCell) n (queuedIn n t) t) where
   -- of each queued place the f is what it was
-  pub tree-stays : (new : List Float) → ((j : ℕ) → j < n → queuedIn n t j ≡ true → column new 11 7 j ≡ column old 11 7 j)
-      → Tree (column new 11 7) n (queuedIn n t) t
+  pub tree-stays : (new : List Float) → ((j : ℕ) → j < n → queuedIn n t j ≡ true → column new floatsPerPlace fCell j ≡ column old floatsPerPlace fCell j)
+      → Tree (column new floatsPerPlace fCell) n (queuedIn n t) t
   tree-stays new same =
-      tree-same (column old 11 7) (column new 11 7) n (queuedIn n t) (queuedIn n t) few (λ j l. refl) (λ j l h. sym (same j l h)) t tree
+      let was = column old floatsPerPlace fCell in
+      let is = column new floatsPerPlace fCell in
+      tree-same was is n (queuedIn n t) (queuedIn n t) few (λ j l. refl) (λ j l h. sym (same j l h)) t tree
 
   -- beside a distance on record
-  pub tree-beside : (new : List Float) → ((j : ℕ) → SameFloats new old j) → Tree (column new 11 7) n (queuedIn n t) t
+  pub tree-beside : (new : List Float) → ((j : ℕ) → SameFloats new old j) → Tree (column new floatsPerPlace fCell) n (queuedIn n t) t
   tree-beside new same = tree-stays new (λ j l h. f-same new old j (same j))
 
   -- beside a node at a place behind every queued one
   pub tree-behind : (i : ℕ) (node : Node) (f : Float) → ((j : ℕ) → j < n → queuedIn n t j ≡ true → j < i)
-      → Tree (column (putFloats old i node f) 11 7) n (queuedIn n t) t
+      → Tree (column (putFloats old i node f) floatsPerPlace fCell) n (queuedIn n t) t
   tree-behind i node f below = tree-stays (putFloats old i node f) (λ j l h. f-same (putFloats old i node f) old j (beside j (below j l h)))
     where
       beside : (j : ℕ) → j < i → SameFloats (putFloats old i node f) old j

@@ -1,13 +1,13 @@
 -- Distances on record: where the record of a root stands, and what leaves it there. Rests on specs/Layout. Assumes nothing.
 use Prim.Native.Nat.{ℕ, _+_, _*_, _≤_, _<_}
 use native.Mathlib.Omega.{arith}
-use mathlib.Core.Path.{_≡_, ap, sym, _∙_}
-use mathlib.Core.Bool.{true, false, not}
+use mathlib.Core.Path.{_≡_, ap, _∙_}
+use mathlib.Core.Bool.{true, not}
 use lib.Dec.{T}
 use mathlib.Core.List.{List, [], _∷_}
-use mathlib.Core.Logic.{_⊎_, inl, inr}
+use mathlib.Core.Logic.{inl, inr}
 use lib.Ieee.{Float, nan, eq, isNan}
-use lib.ListN.{length, getD}
+use lib.ListN.{length}
 use lib.Seq.{getD-set-other}
 use Rattle.float.proofs.Tests.{and-true}
 use Rattle.float.proofs.Nan.{eq-no-nan}
@@ -16,8 +16,8 @@ use Rattle.counts.proofs.Laws.{first-is, first-le, first-before, first-at, firs
 use Rattle.point.specs.declared.Point.{Point}
 use Rattle.point.specs.Point.{pointOf, sameOf}
 use Rattle.steps.specs.declared.Node.{Node}
-use Rattle.places.specs.Layout.{floatAt, putFloats, recordRoot, recordFor, recordPut, distancePut}
-use Rattle.places.proofs.Rows.{which, puts-other, puts-same, floats-elsewhere}
+use Rattle.places.specs.Layout.{floatsPerPlace, recordXCell, recordYCell, distanceCell, floatAt, putFloats, recordRoot, recordFor, recordPut, distancePut}
+use Rattle.places.proofs.Rows.{puts-other, puts-same, floats-elsewhere}
 
 -- ---- roots by ==
 
@@ -46,23 +46,36 @@ module _ (floats : List Float) where
   -- a node that is put leaves them
   pub record-root-put : (i : ℕ) (node : Node) (f : Float) (k : ℕ) → recordRoot (putFloats floats i node f) k ≡ recordRoot floats k
   unfolding recordRoot
-  record-root-put i node f k = rw (floats-elsewhere floats i node f k 8 (omega arith) (inr (omega arith)), floats-elsewhere floats i node f k 9 (omega arith) (inr (omega arith)))
+  record-root-put i node f k =
+      let stays = floats-elsewhere floats i node f k in
+      rw (stays recordXCell (omega arith) (inr (omega arith)), stays recordYCell (omega arith) (inr (omega arith)))
 
   -- so does a distance
   pub record-root-distance : (r : ℕ) (distance : Float) (k : ℕ) → recordRoot (distancePut floats r distance) k ≡ recordRoot floats k
   unfolding recordRoot distancePut floatAt
-  record-root-distance r distance k = rw (getD-set-other floats (r * 11 + 10) (k * 11 + 8) distance nan (λ e. omega arith), getD-set-other floats (r * 11 + 10) (k * 11 + 9) distance nan (λ e. omega arith))
+  record-root-distance r distance k =
+      let at = r * floatsPerPlace + distanceCell in
+      rw (
+        getD-set-other floats at (k * floatsPerPlace + recordXCell) distance nan (λ e. omega arith),
+        getD-set-other floats at (k * floatsPerPlace + recordYCell) distance nan (λ e. omega arith),
+      )
 
   module _ (r : ℕ) (root : Point) (distance : Float) where
+    abbrev cells : List Float
+    cells = root .x ∷ root .y ∷ distance ∷ []
+
     -- a record that is put leaves those below it
     pub record-root-below : (k : ℕ) → k < r → recordRoot (recordPut floats r root distance) k ≡ recordRoot floats k
     unfolding recordRoot recordPut floatAt
-    record-root-below k l = rw (puts-other floats (r * 11) 8 (root .x ∷ root .y ∷ distance ∷ []) (k * 11 + 8) nan (inl (omega arith)), puts-other floats (r * 11) 8 (root .x ∷ root .y ∷ distance ∷ []) (k * 11 + 9) nan (inl (omega arith)))
+    record-root-below k l =
+        let stays = puts-other floats (r * floatsPerPlace) recordXCell cells in
+        rw (stays (k * floatsPerPlace + recordXCell) nan (inl (omega arith)), stays (k * floatsPerPlace + recordYCell) nan (inl (omega arith)))
 
-    pub record-root-there : (r + 1) * 11 ≤ length floats → recordRoot (recordPut floats r root distance) r ≡ root
+    pub record-root-there : (r + 1) * floatsPerPlace ≤ length floats → recordRoot (recordPut floats r root distance) r ≡ root
     unfolding recordRoot recordPut floatAt pointOf
     record-root-there room =
-        rw (puts-same floats (r * 11) 8 (root .x ∷ root .y ∷ distance ∷ []) 0 nan (omega arith) (omega arith), puts-same floats (r * 11) 8 (root .x ∷ root .y ∷ distance ∷ []) 1 nan (omega arith) (omega arith))
+        let there = puts-same floats (r * floatsPerPlace) recordXCell cells in
+        rw (there 0 nan (omega arith) (omega arith), there 1 nan (omega arith) (omega arith))
 
 -- ---- where a root's record stands
 
@@ -89,12 +102,15 @@ module _ (new old : List Float) (records : ℕ) (root : Point) (same : (k : ℕ)
       (λ l. ap (λ (p : Point). sameOf p root) (same (recordFor old records root) low) ∙ first-at records (λ r. sameOf (recordRoot old r) root) low)
 
   -- a root that had none has the one more
-  pub record-for-new : records ≤ recordFor old records root → recordRoot new records ≡ root → sameOf root root ≡ true → recordFor new (records + 1) root ≡ records
+  pub record-for-new : records ≤ recordFor old records root → recordRoot new records ≡ root → sameOf root root ≡ true
+      → recordFor new (records + 1) root ≡ records
   unfolding recordFor
   record-for-new none there self =
       first-is (records + 1) (λ r. sameOf (recordRoot new r) root) records (omega arith)
       (λ k l. ap (λ (p : Point). sameOf p root) (same k l) ∙ first-before records (λ r. sameOf (recordRoot old r) root) k (omega (arith, none, l)))
       (λ l. ap (λ (p : Point). sameOf p root) there ∙ self)
 
-pub record-for-put : (floats : List Float) (i : ℕ) (node : Node) (f : Float) (records : ℕ) (root : Point) → recordFor (putFloats floats i node f) records root ≡ recordFor floats records root
-record-for-put floats i node f records root = record-for-same (putFloats floats i node f) floats records root (λ k l. record-root-put floats i node f k)
+pub record-for-put : (floats : List Float) (i : ℕ) (node : Node) (f : Float) (records : ℕ) (root : Point)
+    → recordFor (putFloats floats i node f) records root ≡ recordFor floats records root
+record-for-put floats i node f records root =
+    record-for-same (putFloats floats i node f) floats records root (λ k l. record-root-put floats i node f k)

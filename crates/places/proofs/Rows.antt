@@ -18,7 +18,11 @@ use Rattle.route.specs.declared.Step.{Step}
 use Rattle.route.specs.Step.{kindNumber}
 use Rattle.steps.specs.declared.Node.{Node}
 use Rattle.queue.specs.Words.{column}
-use Rattle.places.specs.Layout.{Work, Room, placesIn, puts, floatAt, wordAt, intervalIn, leftIn, nodeIn, kindOf, stepIn, parentIn, depthIn, numberIn, putFloats, putWords, recordPut, distancePut}
+use Rattle.places.specs.Layout.{floatsPerPlace, wordsPerPlace, rightXCell, rightYCell, leftXCell, leftYCell, rootXCell, rootYCell, lengthCell, fCell}
+use Rattle.places.specs.Layout.{recordXCell, distanceCell, kindCell, polygonCell, firstCell, secondCell, parentCell, pointsCell, depthCell, numberCell}
+use Rattle.places.specs.Layout.{seedKind}
+use Rattle.places.specs.Layout.{Work, Room, placesIn, puts, floatAt, wordAt, intervalIn, leftIn, nodeIn, kindOf, stepIn, parentIn, depthIn, numberIn}
+use Rattle.places.specs.Layout.{putFloats, putWords, recordPut, distancePut}
 
 -- ---- cells
 
@@ -37,7 +41,8 @@ module _ {A : Type 0} where
       ∙ getD-set-other l (row + k) c x d (⊎-elim (λ h e. omega arith) (λ h e. omega arith) o)
 
   -- one that is put
-  pub puts-same : (l : List A) (row k : ℕ) (xs : List A) (j : ℕ) (d : A) → row + k + length xs ≤ length l → j < length xs → getD (puts l row k xs) (row + (k + j)) d ≡ getD xs j d
+  pub puts-same : (l : List A) (row k : ℕ) (xs : List A) (j : ℕ) (d : A) → row + k + length xs ≤ length l → j < length xs
+      → getD (puts l row k xs) (row + (k + j)) d ≡ getD xs j d
   unfolding puts
   puts-same l row k [] j d r h = absurd (omega arith)
   puts-same l row k (x ∷ xs) zero d r h =
@@ -71,95 +76,101 @@ kind-back LeftNonObservable = refl
 
 -- the cells of a node in a row of floats, and those in a row of words
 abbrev pub SameFloats : List Float → List Float → ℕ → Type 0
-SameFloats new old i = (k : ℕ) → k < 8 → floatAt new i k ≡ floatAt old i k
+SameFloats new old i = (k : ℕ) → k < recordXCell → floatAt new i k ≡ floatAt old i k
 
 abbrev pub SameWords : List ℕ → List ℕ → ℕ → Type 0
-SameWords new old i = (k : ℕ) → k < 8 → wordAt new i k ≡ wordAt old i k
+SameWords new old i = (k : ℕ) → k < wordsPerPlace → wordAt new i k ≡ wordAt old i k
 
 module _ (words was : List ℕ) (i : ℕ) (kept : SameWords words was i) where
   pub parent-same : parentIn words i ≡ parentIn was i
   unfolding parentIn
-  parent-same = kept 4 (omega arith)
+  parent-same = kept parentCell (omega arith)
 
   pub depth-same : depthIn words i ≡ depthIn was i
   unfolding depthIn
-  depth-same = kept 6 (omega arith)
+  depth-same = kept depthCell (omega arith)
 
   pub number-same : numberIn words i ≡ numberIn was i
   unfolding numberIn
-  number-same = kept 7 (omega arith)
+  number-same = kept numberCell (omega arith)
 
 module _ (new old : List Float) (i : ℕ) (same : SameFloats new old i) where
   interval-same : intervalIn new i ≡ intervalIn old i
   unfolding intervalIn
-  interval-same = rw (same 0 (omega arith), same 1 (omega arith), same 2 (omega arith), same 3 (omega arith))
+  interval-same = rw (same rightXCell (omega arith), same rightYCell (omega arith), same leftXCell (omega arith), same leftYCell (omega arith))
 
-  pub f-same : column new 11 7 i ≡ column old 11 7 i
+  pub f-same : column new floatsPerPlace fCell i ≡ column old floatsPerPlace fCell i
   unfolding column floatAt
-  f-same = same 7 (omega arith)
+  f-same = same fCell (omega arith)
 
   module _ (words was : List ℕ) (kept : SameWords words was i) where
     -- its parent's polygon too
-    pub node-same : wordAt words (parentIn was i) 1 ≡ wordAt was (parentIn was i) 1 → nodeIn new words i ≡ nodeIn old was i
+    pub node-same : wordAt words (parentIn was i) polygonCell ≡ wordAt was (parentIn was i) polygonCell → nodeIn new words i ≡ nodeIn old was i
     unfolding nodeIn leftIn
     node-same left =
         rw (
           interval-same,
-          same 4 (omega arith),
-          same 5 (omega arith),
-          same 6 (omega arith),
-          kept 0 (omega arith),
-          kept 1 (omega arith),
-          kept 2 (omega arith),
-          kept 3 (omega arith),
-          kept 5 (omega arith),
+          same rootXCell (omega arith),
+          same rootYCell (omega arith),
+          same lengthCell (omega arith),
+          kept kindCell (omega arith),
+          kept polygonCell (omega arith),
+          kept firstCell (omega arith),
+          kept secondCell (omega arith),
+          kept pointsCell (omega arith),
           parent-same words was i kept,
           left,
         )
 
     pub step-same : stepIn new words i ≡ stepIn old was i
     unfolding stepIn
-    step-same = rw (interval-same, kept 0 (omega arith), kept 1 (omega arith), kept 2 (omega arith), kept 3 (omega arith))
+    step-same = rw (interval-same, kept kindCell (omega arith), kept polygonCell (omega arith), kept firstCell (omega arith), kept secondCell (omega arith))
 
 -- ---- a node put at a place
 
 module _ (floats : List Float) (i : ℕ) (node : Node) (f : Float) where
   pub put-floats-length : length (putFloats floats i node f) ≡ length floats
   unfolding putFloats
-  put-floats-length = puts-length floats (i * 11) 0 _
+  put-floats-length = puts-length floats (i * floatsPerPlace) rightXCell _
 
   -- other rows stay, and so do this one's three cells of a distance record
-  pub floats-elsewhere : (j k : ℕ) → k < 11 → ((j ≡ i → ⊥) ⊎ (8 ≤ k)) → floatAt (putFloats floats i node f) j k ≡ floatAt floats j k
+  pub floats-elsewhere : (j k : ℕ) → k < floatsPerPlace → ((j ≡ i → ⊥) ⊎ (recordXCell ≤ k)) → floatAt (putFloats floats i node f) j k ≡ floatAt floats j k
   unfolding putFloats floatAt
-  floats-elsewhere j k h o = puts-other floats (i * 11) 0 _ (j * 11 + k) nan (go (which i j) o)
+  floats-elsewhere j k h o = puts-other floats (i * floatsPerPlace) rightXCell _ (j * floatsPerPlace + k) nan (go (which i j) o)
     where
-      go : (j < i) ⊎ ((j ≡ i) ⊎ (i < j)) → (j ≡ i → ⊥) ⊎ (8 ≤ k) → (j * 11 + k < i * 11 + 0) ⊎ (i * 11 + 0 + 8 ≤ j * 11 + k)
+      go : (j < i) ⊎ ((j ≡ i) ⊎ (i < j)) → (j ≡ i → ⊥) ⊎ (recordXCell ≤ k)
+          → (j * floatsPerPlace + k < i * floatsPerPlace + rightXCell) ⊎ (i * floatsPerPlace + rightXCell + recordXCell ≤ j * floatsPerPlace + k)
       go (inl l) o = inl (omega arith)
       go (inr (inr l)) o = inr (omega arith)
       go (inr (inl e)) (inl d) = absurd (d e)
       go (inr (inl e)) (inr l) = inr (omega arith)
 
-  module _ (room : (i + 1) * 11 ≤ length floats) where
-    row-cell : (k : ℕ) → k < 8 → floatAt (putFloats floats i node f) i k ≡ getD (node .interval .0 .x ∷ node .interval .0 .y ∷ node .interval .1 .x ∷ node .interval .1 .y ∷ node .root .x ∷ node .root .y ∷ node .length ∷ f ∷ []) k nan
+  module _ (room : (i + 1) * floatsPerPlace ≤ length floats) where
+    abbrev cells : List Float
+    cells =
+        node .interval .0 .x ∷ node .interval .0 .y ∷ node .interval .1 .x ∷ node .interval .1 .y ∷ node .root .x ∷ node .root .y ∷ node .length ∷ f ∷ []
+
+    row-cell : (k : ℕ) → k < recordXCell → floatAt (putFloats floats i node f) i k ≡ getD cells k nan
     unfolding putFloats floatAt
     row-cell k h =
         let e : 0 + k ≡ k = omega arith in
-        rw e at (puts-same floats (i * 11) 0 (node .interval .0 .x ∷ node .interval .0 .y ∷ node .interval .1 .x ∷ node .interval .1 .y ∷ node .root .x ∷ node .root .y ∷ node .length ∷ f ∷ []) k nan (omega arith) h)
+        rw e at (puts-same floats (i * floatsPerPlace) rightXCell cells k nan (omega arith) h)
 
-    pub f-put : column (putFloats floats i node f) 11 7 i ≡ f
+    pub f-put : column (putFloats floats i node f) floatsPerPlace fCell i ≡ f
     unfolding column floatAt
-    f-put = row-cell 7 (omega arith)
+    f-put = row-cell fCell (omega arith)
 
     interval-put : intervalIn (putFloats floats i node f) i ≡ node .interval
     unfolding intervalIn pointOf
-    interval-put = rw (row-cell 0 (omega arith), row-cell 1 (omega arith), row-cell 2 (omega arith), row-cell 3 (omega arith))
+    interval-put =
+        rw (row-cell rightXCell (omega arith), row-cell rightYCell (omega arith), row-cell leftXCell (omega arith), row-cell leftYCell (omega arith))
 
-    pub root-put : pointOf (floatAt (putFloats floats i node f) i 4) (floatAt (putFloats floats i node f) i 5) ≡ node .root
+    pub root-put : pointOf (floatAt (putFloats floats i node f) i rootXCell) (floatAt (putFloats floats i node f) i rootYCell) ≡ node .root
     unfolding pointOf
-    root-put = rw (row-cell 4 (omega arith), row-cell 5 (omega arith))
+    root-put = rw (row-cell rootXCell (omega arith), row-cell rootYCell (omega arith))
 
-    length-put : floatAt (putFloats floats i node f) i 6 ≡ node .length
-    length-put = row-cell 6 (omega arith)
+    length-put : floatAt (putFloats floats i node f) i lengthCell ≡ node .length
+    length-put = row-cell lengthCell (omega arith)
 
 module _ (words : List ℕ) (i kind : ℕ) (node : Node) (parent depth number : ℕ) where
   abbrev after : List ℕ
@@ -167,39 +178,43 @@ module _ (words : List ℕ) (i kind : ℕ) (node : Node) (parent depth number : 
 
   pub put-words-length : length after ≡ length words
   unfolding putWords
-  put-words-length = puts-length words (i * 8) 0 _
+  put-words-length = puts-length words (i * wordsPerPlace) kindCell _
 
-  pub words-elsewhere : (j k : ℕ) → k < 8 → (j ≡ i → ⊥) → wordAt after j k ≡ wordAt words j k
+  pub words-elsewhere : (j k : ℕ) → k < wordsPerPlace → (j ≡ i → ⊥) → wordAt after j k ≡ wordAt words j k
   unfolding putWords wordAt
-  words-elsewhere j k h d = puts-other words (i * 8) 0 _ (j * 8 + k) 0 (go (which i j))
+  words-elsewhere j k h d = puts-other words (i * wordsPerPlace) kindCell _ (j * wordsPerPlace + k) 0 (go (which i j))
     where
-      go : (j < i) ⊎ ((j ≡ i) ⊎ (i < j)) → (j * 8 + k < i * 8 + 0) ⊎ (i * 8 + 0 + 8 ≤ j * 8 + k)
+      go : (j < i) ⊎ ((j ≡ i) ⊎ (i < j))
+          → (j * wordsPerPlace + k < i * wordsPerPlace + kindCell) ⊎ (i * wordsPerPlace + kindCell + wordsPerPlace ≤ j * wordsPerPlace + k)
       go (inl l) = inl (omega arith)
       go (inr (inr l)) = inr (omega arith)
       go (inr (inl e)) = absurd (d e)
 
-  module _ (room : (i + 1) * 8 ≤ length words) where
-    word-cell : (k : ℕ) → k < 8 → wordAt after i k ≡ getD (kind ∷ node .polygon ∷ node .first ∷ node .second ∷ parent ∷ node .points ∷ depth ∷ number ∷ []) k 0
+  module _ (room : (i + 1) * wordsPerPlace ≤ length words) where
+    abbrev words-cells : List ℕ
+    words-cells = kind ∷ node .polygon ∷ node .first ∷ node .second ∷ parent ∷ node .points ∷ depth ∷ number ∷ []
+
+    word-cell : (k : ℕ) → k < wordsPerPlace → wordAt after i k ≡ getD words-cells k 0
     unfolding putWords wordAt
     word-cell k h =
         let e : 0 + k ≡ k = omega arith in
-        rw e at (puts-same words (i * 8) 0 (kind ∷ node .polygon ∷ node .first ∷ node .second ∷ parent ∷ node .points ∷ depth ∷ number ∷ []) k 0 (omega arith) h)
+        rw e at (puts-same words (i * wordsPerPlace) kindCell words-cells k 0 (omega arith) h)
 
     pub parent-put : parentIn after i ≡ parent
     unfolding parentIn
-    parent-put = word-cell 4 (omega arith)
+    parent-put = word-cell parentCell (omega arith)
 
     pub depth-put : depthIn after i ≡ depth
     unfolding depthIn
-    depth-put = word-cell 6 (omega arith)
+    depth-put = word-cell depthCell (omega arith)
 
     pub number-put : numberIn after i ≡ number
     unfolding numberIn
-    number-put = word-cell 7 (omega arith)
+    number-put = word-cell numberCell (omega arith)
 
-    module _ (floats : List Float) (f : Float) (space : (i + 1) * 11 ≤ length floats) where
+    module _ (floats : List Float) (f : Float) (space : (i + 1) * floatsPerPlace ≤ length floats) where
       -- where its parent's polygon is the one that it left
-      pub node-put : eqb kind 1 ≡ node .seed → wordAt after parent 1 ≡ node .left → nodeIn (putFloats floats i node f) after i ≡ node
+      pub node-put : eqb kind seedKind ≡ node .seed → wordAt after parent polygonCell ≡ node .left → nodeIn (putFloats floats i node f) after i ≡ node
       unfolding nodeIn leftIn
       node-put e left =
           rw (
@@ -208,11 +223,11 @@ module _ (words : List ℕ) (i kind : ℕ) (node : Node) (parent depth number : 
             length-put floats i node f space,
             parent-put,
             left,
-            word-cell 0 (omega arith),
-            word-cell 1 (omega arith),
-            word-cell 2 (omega arith),
-            word-cell 3 (omega arith),
-            word-cell 5 (omega arith),
+            word-cell kindCell (omega arith),
+            word-cell polygonCell (omega arith),
+            word-cell firstCell (omega arith),
+            word-cell secondCell (omega arith),
+            word-cell pointsCell (omega arith),
           )
           (ap (λ (b : Bool). record {
             seed = b;
@@ -227,27 +242,41 @@ module _ (words : List ℕ) (i kind : ℕ) (node : Node) (parent depth number : 
           }) e)
 
       -- the polygon stands where another's parent finds it
-      pub polygon-put : wordAt after i 1 ≡ node .polygon
-      polygon-put = word-cell 1 (omega arith)
+      pub polygon-put : wordAt after i polygonCell ≡ node .polygon
+      polygon-put = word-cell polygonCell (omega arith)
 
-      pub step-put : (step : Step) → kind ≡ kindNumber (step .kind) → node .polygon ≡ step .polygon → node .first ≡ step .first → node .second ≡ step .second → node .interval ≡ step .interval
+      pub step-put : (step : Step) → kind ≡ kindNumber (step .kind) → node .polygon ≡ step .polygon → node .first ≡ step .first
+          → node .second ≡ step .second → node .interval ≡ step .interval
           → stepIn (putFloats floats i node f) after i ≡ step
       unfolding stepIn
       step-put step a b c d e =
-          rw (interval-put floats i node f space, word-cell 0 (omega arith), word-cell 1 (omega arith), word-cell 2 (omega arith), word-cell 3 (omega arith), a, kind-back (step .kind), b, c, d, e)
+          rw (
+            interval-put floats i node f space,
+            word-cell kindCell (omega arith),
+            word-cell polygonCell (omega arith),
+            word-cell firstCell (omega arith),
+            word-cell secondCell (omega arith),
+            a,
+            kind-back (step .kind),
+            b,
+            c,
+            d,
+            e,
+          )
 
 -- ---- distance records lie beside the nodes
 
 module _ (floats : List Float) (r : ℕ) (root : Point) (distance : Float) where
   pub record-length : length (recordPut floats r root distance) ≡ length floats
   unfolding recordPut
-  record-length = puts-length floats (r * 11) 8 _
+  record-length = puts-length floats (r * floatsPerPlace) recordXCell _
 
   pub record-beside : (i : ℕ) → SameFloats (recordPut floats r root distance) floats i
   unfolding recordPut floatAt
-  record-beside i k h = puts-other floats (r * 11) 8 _ (i * 11 + k) nan (go (which r i))
+  record-beside i k h = puts-other floats (r * floatsPerPlace) recordXCell _ (i * floatsPerPlace + k) nan (go (which r i))
     where
-      go : (i < r) ⊎ ((i ≡ r) ⊎ (r < i)) → (i * 11 + k < r * 11 + 8) ⊎ (r * 11 + 8 + 3 ≤ i * 11 + k)
+      go : (i < r) ⊎ ((i ≡ r) ⊎ (r < i))
+          → (i * floatsPerPlace + k < r * floatsPerPlace + recordXCell) ⊎ (r * floatsPerPlace + recordXCell + 3 ≤ i * floatsPerPlace + k)
       go (inl l) = inl (omega arith)
       go (inr (inl e)) = inl (omega arith)
       go (inr (inr l)) = inr (omega arith)
@@ -255,13 +284,13 @@ module _ (floats : List Float) (r : ℕ) (root : Point) (distance : Float) where
 module _ (floats : List Float) (r : ℕ) (distance : Float) where
   pub distance-length : length (distancePut floats r distance) ≡ length floats
   unfolding distancePut
-  distance-length = length-set floats (r * 11 + 10) distance
+  distance-length = length-set floats (r * floatsPerPlace + distanceCell) distance
 
   pub distance-beside : (i : ℕ) → SameFloats (distancePut floats r distance) floats i
   unfolding distancePut floatAt
-  distance-beside i k h = getD-set-other floats (r * 11 + 10) (i * 11 + k) distance nan (λ e. go (which r i) e)
+  distance-beside i k h = getD-set-other floats (r * floatsPerPlace + distanceCell) (i * floatsPerPlace + k) distance nan (λ e. go (which r i) e)
     where
-      go : (i < r) ⊎ ((i ≡ r) ⊎ (r < i)) → i * 11 + k ≡ r * 11 + 10 → ⊥
+      go : (i < r) ⊎ ((i ≡ r) ⊎ (r < i)) → i * floatsPerPlace + k ≡ r * floatsPerPlace + distanceCell → ⊥
       go (inl l) e = omega arith
       go (inr (inl x)) e = omega arith
       go (inr (inr l)) e = omega arith

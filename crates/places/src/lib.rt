@@ -4,7 +4,8 @@
 ghost use mathlib.Core.Path.{_≡_};
 ghost use Prim.Native.Nat.{_+_, _*_, _≤_, _<_, min};
 ghost use lib.ListN.{length};
-ghost use Rattle.places.specs.Layout.{workOf, placesIn, intervalIn, leftIn, nodeIn, kindOf, stepIn, parentIn, depthIn, numberIn, putFloats, putWords, recordRoot, recordDistance, recordFor, recordPut, distancePut};
+ghost use Rattle.places.specs.Layout.{floatsPerPlace, wordsPerPlace, workOf, placesIn, intervalIn, leftIn, nodeIn, kindOf, stepIn, parentIn, depthIn};
+ghost use Rattle.places.specs.Layout.{numberIn, putFloats, putWords, recordRoot, recordDistance, recordFor, recordPut, distancePut};
 use cut::SuccessorType;
 use point::Point;
 use point::Segment;
@@ -15,6 +16,9 @@ use steps::Node;
 pub const FLOATS: usize = 11;
 
 pub const WORDS: usize = 8;
+
+// Words of the queue for a place.
+const QUEUE_WORDS: usize = 2;
 
 // The cell of a row of floats in which f stands.
 pub const F_AT: usize = 7;
@@ -39,12 +43,12 @@ pub fn places_in(floats: &[f32], words: &[u32], queue: &[u32]) -> usize
     ensures { λ r. ⌜ r ≡ placesIn (workOf (now (floats .entry)) (now (words .entry)) (now (queue .entry))) ⌝ }
 {
     let rows = lesser(floats.len() / FLOATS, words.len() / WORDS);
-    lesser(lesser(rows, queue.len() / 2), MOST_PLACES)
+    lesser(lesser(rows, queue.len() / QUEUE_WORDS), MOST_PLACES)
 }
 
 // Stores the floats of the node at place i.
 pub fn put_floats(floats: &mut [f32], i: usize, node: Node, f: f32)
-    requires { ⌜ (i + 1) * 11 ≤ length (now floats) ⌝ }
+    requires { ⌜ (i + 1) * floatsPerPlace ≤ length (now floats) ⌝ }
     ensures { λ _. ⌜ now (floats .exit) ≡ putFloats (now (floats .entry)) i node f ⌝ }
 {
     let row = i * FLOATS;
@@ -73,7 +77,7 @@ pub fn put_words(
     depth: u32,
     number: u32,
 )
-    requires { ⌜ (i + 1) * 8 ≤ length (now words) ⌝ }
+    requires { ⌜ (i + 1) * wordsPerPlace ≤ length (now words) ⌝ }
     ensures { λ _. ⌜ now (words .exit) ≡ putWords (now (words .entry)) i kind node parent depth number ⌝ }
 {
     let row = i * WORDS;
@@ -89,7 +93,7 @@ pub fn put_words(
 
 // The interval of the node at place i.
 fn interval_at(floats: &[f32], i: usize) -> Segment
-    requires { ⌜ (i + 1) * 11 ≤ length (now floats) ⌝ }
+    requires { ⌜ (i + 1) * floatsPerPlace ≤ length (now floats) ⌝ }
     ensures { λ r. ⌜ r ≡ intervalIn (now (floats .entry)) i ⌝ }
 {
     let row = i * FLOATS;
@@ -100,7 +104,7 @@ fn interval_at(floats: &[f32], i: usize) -> Segment
 
 // The place from which the node at place i was entered.
 pub fn parent_at(words: &[u32], i: usize) -> u32
-    requires { ⌜ (i + 1) * 8 ≤ length (now words) ⌝ }
+    requires { ⌜ (i + 1) * wordsPerPlace ≤ length (now words) ⌝ }
     ensures { λ r. ⌜ r ≡ parentIn (now (words .entry)) i ⌝ }
 {
     words[i * WORDS + 4]
@@ -108,7 +112,7 @@ pub fn parent_at(words: &[u32], i: usize) -> u32
 
 // The polygon of that place, which was left for the node's own.
 fn left_at(words: &[u32], i: usize) -> u32
-    requires { ⌜ ((i + 1) * 8 ≤ length (now words)) × ((parentIn (now words) i + 1) * 8 ≤ length (now words)) ⌝ }
+    requires { ⌜ ((i + 1) * wordsPerPlace ≤ length (now words)) × ((parentIn (now words) i + 1) * wordsPerPlace ≤ length (now words)) ⌝ }
     ensures { λ r. ⌜ r ≡ leftIn (now (words .entry)) i ⌝ }
 {
     let parent = parent_at(words, i) as usize;
@@ -117,7 +121,8 @@ fn left_at(words: &[u32], i: usize) -> u32
 
 // The node at place i, of which another place is the parent.
 pub fn node_at(floats: &[f32], words: &[u32], i: usize) -> Node
-    requires { ⌜ ((i + 1) * 11 ≤ length (now floats)) × ((i + 1) * 8 ≤ length (now words)) × ((parentIn (now words) i + 1) * 8 ≤ length (now words)) ⌝ }
+    requires { ⌜ ((i + 1) * floatsPerPlace ≤ length (now floats)) × ((i + 1) * wordsPerPlace ≤ length (now words))
+        × ((parentIn (now words) i + 1) * wordsPerPlace ≤ length (now words)) ⌝ }
     ensures { λ r. ⌜ r ≡ nodeIn (now (floats .entry)) (now (words .entry)) i ⌝ }
 {
     let interval = interval_at(floats, i);
@@ -154,7 +159,7 @@ fn kind_of(number: u32) -> SuccessorType
 
 // The step by which the node at place i was entered.
 pub fn step_at(floats: &[f32], words: &[u32], i: usize) -> Step
-    requires { ⌜ ((i + 1) * 11 ≤ length (now floats)) × ((i + 1) * 8 ≤ length (now words)) ⌝ }
+    requires { ⌜ ((i + 1) * floatsPerPlace ≤ length (now floats)) × ((i + 1) * wordsPerPlace ≤ length (now words)) ⌝ }
     ensures { λ r. ⌜ r ≡ stepIn (now (floats .entry)) (now (words .entry)) i ⌝ }
 {
     let interval = interval_at(floats, i);
@@ -171,7 +176,7 @@ pub fn step_at(floats: &[f32], words: &[u32], i: usize) -> Step
 
 // How many steps led to the node at place i.
 pub fn depth_at(words: &[u32], i: usize) -> u32
-    requires { ⌜ (i + 1) * 8 ≤ length (now words) ⌝ }
+    requires { ⌜ (i + 1) * wordsPerPlace ≤ length (now words) ⌝ }
     ensures { λ r. ⌜ r ≡ depthIn (now (words .entry)) i ⌝ }
 {
     words[i * WORDS + 6]
@@ -179,7 +184,7 @@ pub fn depth_at(words: &[u32], i: usize) -> u32
 
 // The number of the record that the root of the node at place i has.
 pub fn number_at(words: &[u32], i: usize) -> u32
-    requires { ⌜ (i + 1) * 8 ≤ length (now words) ⌝ }
+    requires { ⌜ (i + 1) * wordsPerPlace ≤ length (now words) ⌝ }
     ensures { λ r. ⌜ r ≡ numberIn (now (words .entry)) i ⌝ }
 {
     words[i * WORDS + 7]
@@ -187,7 +192,7 @@ pub fn number_at(words: &[u32], i: usize) -> u32
 
 // The root of record r.
 fn record_root(floats: &[f32], r: usize) -> Point
-    requires { ⌜ (r + 1) * 11 ≤ length (now floats) ⌝ }
+    requires { ⌜ (r + 1) * floatsPerPlace ≤ length (now floats) ⌝ }
     ensures { λ a. ⌜ a ≡ recordRoot (now (floats .entry)) r ⌝ }
 {
     let row = r * FLOATS;
@@ -196,7 +201,7 @@ fn record_root(floats: &[f32], r: usize) -> Point
 
 // The distance of record r.
 pub fn record_distance(floats: &[f32], r: usize) -> f32
-    requires { ⌜ (r + 1) * 11 ≤ length (now floats) ⌝ }
+    requires { ⌜ (r + 1) * floatsPerPlace ≤ length (now floats) ⌝ }
     ensures { λ a. ⌜ a ≡ recordDistance (now (floats .entry)) r ⌝ }
 {
     floats[r * FLOATS + 10]
@@ -204,7 +209,7 @@ pub fn record_distance(floats: &[f32], r: usize) -> f32
 
 // The first of so many records whose root is this one by ==, or their number.
 pub fn record_for(floats: &[f32], records: usize, root: Point) -> usize
-    requires { ⌜ records * 11 ≤ length (now floats) ⌝ }
+    requires { ⌜ records * floatsPerPlace ≤ length (now floats) ⌝ }
     ensures { λ a. ⌜ a ≡ recordFor (now (floats .entry)) records root ⌝ }
 {
     let mut r = 0;
@@ -219,7 +224,7 @@ pub fn record_for(floats: &[f32], records: usize, root: Point) -> usize
 
 // Makes record r.
 pub fn put_record(floats: &mut [f32], r: usize, root: Point, distance: f32)
-    requires { ⌜ (r + 1) * 11 ≤ length (now floats) ⌝ }
+    requires { ⌜ (r + 1) * floatsPerPlace ≤ length (now floats) ⌝ }
     ensures { λ _. ⌜ now (floats .exit) ≡ recordPut (now (floats .entry)) r root distance ⌝ }
 {
     let row = r * FLOATS;
@@ -230,7 +235,7 @@ pub fn put_record(floats: &mut [f32], r: usize, root: Point, distance: f32)
 
 // Changes the distance of record r.
 pub fn put_distance(floats: &mut [f32], r: usize, distance: f32)
-    requires { ⌜ (r + 1) * 11 ≤ length (now floats) ⌝ }
+    requires { ⌜ (r + 1) * floatsPerPlace ≤ length (now floats) ⌝ }
     ensures { λ _. ⌜ now (floats .exit) ≡ distancePut (now (floats .entry)) r distance ⌝ }
 {
     floats[r * FLOATS + 10] = distance;

@@ -13,7 +13,7 @@ use Rattle.machine.specs.declared.Task.{Task}
 use Rattle.machine.specs.declared.Finish.{Finish}
 use Rattle.machine.specs.declared.Finish.the-variants.{Arrived, Emptied, Filled, Stopped}
 use Rattle.machine.specs.declared.Outcome.the-variants.{Ends}
-use Rattle.places.specs.Layout.{Work, depthAt, parentAt}
+use Rattle.places.specs.Layout.{wordsPerPlace, Work, depthAt, parentAt}
 use Rattle.machine.specs.Search.{State}
 use Rattle.machine.specs.Sound.{Sound}
 use Rattle.writing.specs.Writing.{Row, ChainLies, Tellable, Tells}
@@ -44,7 +44,7 @@ module _ (plan vs ps : List ℕ) (t : Task) (seed : Node) (s : State) (h : Sound
           let zero-is : 0 ≡ i = omega arith in
           subst Lies zero-is (rw (h .seed-depth) tt)
 
-  parent-in : (i : ℕ) → i < s .counts .taken → (parentAt w i + 1) * 8 ≤ length (w .words)
+  parent-in : (i : ℕ) → i < s .counts .taken → (parentAt w i + 1) * wordsPerPlace ≤ length (w .words)
   parent-in zero l = omega (arith, h .seed-parent, h .fit .room .words-room, l, h .taken-in)
   parent-in (suc i) l = omega (arith, h .entered (suc i) (omega arith) l .lower, h .fit .room .words-room, l, h .taken-in)
 

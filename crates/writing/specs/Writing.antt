@@ -7,7 +7,7 @@ use lib.ListN.{length}
 use Rattle.route.specs.Record.{stepBytes, putRecord}
 use Rattle.machine.specs.declared.Finish.{Finish}
 use Rattle.machine.specs.declared.Finish.the-variants.{Arrived, Emptied, Filled, Stopped}
-use Rattle.places.specs.Layout.{nodeIn, stepIn, parentIn, depthIn}
+use Rattle.places.specs.Layout.{floatsPerPlace, wordsPerPlace, nodeIn, stepIn, parentIn, depthIn}
 
 -- the steps of the chain that ends at place i, the last one as the record of that number, each before it one lower
 unfoldable pub putChain : List Float → List ℕ → ℕ → ℕ → List ℕ → List ℕ
@@ -18,8 +18,8 @@ putChain floats words (suc depth) i out = putChain floats words depth (parentIn 
 
 -- place i has its rows
 pub record Row (floats : List Float) (words : List ℕ) (i : ℕ) : Type 0 where
-  pub in-floats : (i + 1) * 11 ≤ length floats
-  pub in-words : (i + 1) * 8 ≤ length words
+  pub in-floats : (i + 1) * floatsPerPlace ≤ length floats
+  pub in-words : (i + 1) * wordsPerPlace ≤ length words
 
 -- so has every place of the chain that ends there
 abbrev pub ChainLies : List Float → List ℕ → ℕ → ℕ → Type 0
@@ -29,7 +29,7 @@ ChainLies floats words (suc depth) i = Row floats words i × ChainLies floats wo
 -- a route can be told from place i
 pub record Tellable (floats : List Float) (words : List ℕ) (i : ℕ) : Type 0 where
   pub row : Row floats words i
-  pub parent-row : (parentIn words i + 1) * 8 ≤ length words
+  pub parent-row : (parentIn words i + 1) * wordsPerPlace ≤ length words
   pub lies : ChainLies floats words (depthIn words i) i
   pub points-few : nodeIn floats words i .points + 2 < 2 ^ 32
 
