@@ -27,7 +27,7 @@ use Rattle.judge.specs.declared.Verdict.{Verdict}
 use Rattle.judge.specs.declared.Verdict.the-variants.{Refused, Read}
 use Rattle.readout.specs.declared.Readout.{Readout}
 use Rattle.readout.specs.declared.Readout.the-variants.{Refused as Unread, Short, Listed}
-use Rattle.judge.specs.Verdict.{judgedOn, verdictOf}
+use Rattle.judge.specs.Verdict.{judgedOn}
 use Rattle.readout.specs.Points.{pointsOf}
 use Rattle.readout.specs.Readout.{floatsOf, listed, listing, answerIf, outIf, routePoints, readoutOn, writtenOn, readoutOf, writtenOf}
 use Rattle.judge.proofs.Looking.{judges-inside, judges-floor, judges-faulty}

@@ -1,8 +1,8 @@
 -- The parent chain record by record: what is known of an accepted file, and what one step adds to the points. Rests on points in a slice (proofs/Placed). Assumes
 -- nothing.
-use Prim.Native.Nat.{ℕ, suc, _+_, _-_, _*_, _/_, _≤_, _<_}
+use Prim.Native.Nat.{ℕ, suc, _+_, _-_, _*_, _≤_, _<_}
 use native.Mathlib.Omega.{arith}
-use mathlib.Core.Path.{_≡_, refl, sym, ap, ap₂, _∙_, subst}
+use mathlib.Core.Path.{_≡_, refl, sym, ap, ap₂, _∙_}
 use mathlib.Core.Bool.{Bool, true, false}
 use mathlib.Core.List.{List, [], _∷_}
 use lib.Ieee.{Float}
@@ -10,17 +10,16 @@ use lib.ListN.{length}
 use lib.Seq.{sets}
 use Rattle.point.specs.declared.Point.{Point}
 use Rattle.point.specs.Point.{sameOf}
-use Rattle.stored.specs.Stored.{Floor, floorOf}
 use Rattle.route.specs.declared.Step.{Step}
 use Rattle.route.specs.declared.Sought.the-variants.{Found}
 use Rattle.route.specs.declared.Judged.the-variants.{Accepted, NotStep}
 use Rattle.route.specs.World.{World}
-use Rattle.route.specs.Record.{recordAt, records, seedBytes}
+use Rattle.route.specs.Record.{recordAt, seedBytes}
 use Rattle.route.specs.Judge.{lengthRight, sameBytes, findStep, judgeOf}
-use Rattle.route.proofs.Turns.{length-gives, begins-length, begins-wrong}
+use Rattle.route.proofs.Turns.{begins-length, begins-wrong}
 use Rattle.steps.specs.declared.Node.{Node}
-use Rattle.steps.specs.Steps.{stepsFrom, seedNode, enter}
-use Rattle.readout.specs.Points.{chainFrom, chainOf, lastPoints, pointsAlong, pointsOf}
+use Rattle.steps.specs.Steps.{stepsFrom, enter}
+use Rattle.readout.specs.Points.{chainFrom, lastPoints, pointsAlong}
 use Rattle.readout.specs.Readout.{floatsOf, putPoint, putRoot}
 use Rattle.readout.proofs.Placed.{put-more, put-long}
 

@@ -16,23 +16,23 @@ use Rattle.word.specs.Word.{Bytes}
 use Rattle.plan.specs.Plan.{slotsIn, polygonCountIn}
 use Rattle.point.specs.declared.Point.{Point}
 use Rattle.point.specs.Point.{sameOf}
-use Rattle.stored.specs.Stored.{Floor, verticesOf, floorIn}
+use Rattle.stored.specs.Stored.{verticesOf, floorIn}
 use Rattle.stored.proofs.Records.{vertex-count}
 use Rattle.edges.specs.Ground.{Ground}
 use Rattle.route.specs.declared.Sought.the-variants.{Found}
 use Rattle.route.specs.declared.Judged.the-variants.{Accepted}
 use Rattle.route.specs.World.{World}
 use Rattle.route.specs.Record.{recordAt, records}
-use Rattle.route.specs.Judge.{lengthRight, findStep, judgeOf}
+use Rattle.route.specs.Judge.{findStep, judgeOf}
 use Rattle.route.proofs.Turns.{length-gives}
-use Rattle.records.specs.Records.{stepIn, pointsWord}
+use Rattle.records.specs.Records.{stepIn}
 use Rattle.steps.specs.declared.Node.{Node}
 use Rattle.steps.specs.declared.Trip.{Trip}
-use Rattle.steps.specs.Steps.{stepsFrom, seedNode, enter}
+use Rattle.steps.specs.Steps.{stepsFrom, enter}
 use Rattle.steps.specs.World.{worldIn}
 use Rattle.seek.proofs.Reading.{is-read}
 use Rattle.judge.proofs.Following.{Follows, seed-points, few-points, follows-begin, follows-on, follows-stops}
-use Rattle.readout.specs.Points.{onto, chainFrom, chainOf, lastPoints, pointsAlong, pointsOf}
+use Rattle.readout.specs.Points.{chainFrom, chainOf, lastPoints, pointsAlong, pointsOf}
 use Rattle.readout.specs.ReadOff.{readFrom, leads, seedOf, pointsRead, Readable}
 use Rattle.readout.specs.Readout.{floatsOf, putRoot}
 use Rattle.readout.proofs.Chained.{accepted-length, accepted-seed, accepted-stops-not, step-places, step-counts, step-long, some-point, along-end}

@@ -1,11 +1,10 @@
 -- From a floor and a question to the search: each way through the code is the definition's, and what the search asks for is there. Assumes nothing.
 use Prim.Native.Nat.{ℕ, _≤_, _<_}
-use native.Mathlib.Omega.{arith}
-use mathlib.Core.Path.{_≡_, refl, sym, _∙_, subst}
-use mathlib.Core.Bool.{Bool, true, false, not, cond, _&&_}
+use mathlib.Core.Path.{_≡_, sym, _∙_, subst}
+use mathlib.Core.Bool.{true, not, _&&_}
 use mathlib.Core.List.{List}
-use borrow.Author.Tests.{eq-eqb, ne-eqb, leb-false}
-use lib.Dec.{T, leb, eqb}
+use borrow.Author.Tests.{eq-eqb, ne-eqb}
+use lib.Dec.{T, eqb}
 use lib.Ieee.{Float, isNan, le, neg}
 use lib.ListN.{length}
 use Rattle.float.proofs.Tests.{and-true}
@@ -21,11 +20,8 @@ use Rattle.floor.specs.declared.Look.the-variants.{Inside, Refused}
 use Rattle.plan.specs.Plan.{polygonCountIn}
 use Rattle.stored.specs.Stored.{Floor, floorOf, floorIn, questionOf}
 use Rattle.faults.specs.Tests.{coordinateRight, pointRight, questionRight}
-use Rattle.edges.specs.Where.{polygonOf}
 use Rattle.edges.specs.Ground.{Ground}
 use Rattle.floor.specs.Look.{floorLookOf, askOf, lookOf}
-use Rattle.stored.proofs.Records.{polygons-counted}
-use Rattle.floor.proofs.Looked.{question-length}
 use Rattle.steps.specs.declared.Trip.{Trip}
 use Rattle.steps.specs.Steps.{seedNode}
 use Rattle.steps.specs.World.{tripOf}
@@ -90,58 +86,6 @@ start-self question e {start} s =
     let points = and-true (eqb (length question) 16) (pointRight (q .start) && pointRight (q .goal)) e .1 in
     let x = and-true (coordinateRight (q .start .x)) (coordinateRight (q .start .y)) (and-true (pointRight (q .start)) (pointRight (q .goal)) points .0) in
     subst (λ (p : Point). sameOf p p ≡ true) (sym s) (same-itself (q .start) (in-range (q .start .x) (x .0)) (in-range (q .start .y) (x .1)))
-
-inside-not : {A : Type 0} (r : Refusal) (p q : ℕ) → Refused r ≡ Inside p q → A
-inside-not r p q e = let z : _≡_ {A = ℕ} 0 1 = cc in absurd (omega arith)
-
-inside-first : (a b p q : ℕ) → Inside a b ≡ Inside p q → a ≡ p
-inside-first a b p q e = cc
-
-inside-second : (a b p q : ℕ) → Inside a b ≡ Inside p q → b ≡ q
-inside-second a b p q e = cc
-
--- where start and goal are inside, the question is long enough and the plan lists both polygons
-pub record Asking (plan question : List ℕ) (p q : ℕ) : Type 0 where
-  pub long : length question ≡ 16
-  pub right : questionRight question ≡ true
-  pub start-listed : p < polygonCountIn plan
-  pub goal-listed : q < polygonCountIn plan
-  pub few-listed : polygonCountIn plan ≤ 512
-
-module _ {plan vs ps : List ℕ} (g : Ground plan vs ps) (question : List ℕ) {look : Look} (asked : look ≡ askOf (floorIn plan vs ps) question) {p q : ℕ}
-    (inside : look ≡ Inside p q) where
-  abbrev f : Floor
-  f = floorIn plan vs ps
-
-  abbrev a : ℕ
-  a = polygonOf f (questionOf question .start)
-
-  abbrev b : ℕ
-  b = polygonOf f (questionOf question .goal)
-
-  listed : (i j : ℕ) → i ≡ j → leb (length (f .polygons)) i ≡ false → j < polygonCountIn plan
-  listed i j e l = rw (← polygons-counted (g .polygons-planned), ← e) (leb-false (length (f .polygons)) i l)
-
-  pub asked-inside : Asking plan question p q
-  unfolding askOf
-  asked-inside = go (questionRight question) refl (leb n a) refl (leb n b) refl (sym asked ∙ inside)
-    where
-      n : ℕ
-      n = length (f .polygons)
-
-      go : (x : Bool) → questionRight question ≡ x → (y : Bool) → leb n a ≡ y → (z : Bool) → leb n b ≡ z
-          → cond (not x) (Refused refusal.Question) (cond y (Refused refusal.StartOutside) (cond z (Refused refusal.GoalOutside) (Inside a b))) ≡ Inside p q
-          → Asking plan question p q
-      go false r y m z l e = inside-not refusal.Question p q e
-      go true r true m z l e = inside-not refusal.StartOutside p q e
-      go true r false m true l e = inside-not refusal.GoalOutside p q e
-      go true r false m false l e = record {
-        long = question-length question r;
-        right = r;
-        start-listed = listed a p (inside-first a b p q e) m;
-        goal-listed = listed b q (inside-second a b p q e) l;
-        few-listed = rw (g .polygons-planned .counted) (g .polygons-planned .few);
-      }
 
 module _ (f : Floor) (question : List ℕ) (budget : ℕ) (w : Work) (out : List ℕ) {look : Look} (asked : look ≡ askOf f question) where
   pub asks-inside : {p goal : ℕ} → look ≡ Inside p goal → {trip : Trip} → trip ≡ tripOf (questionOf question) p goal

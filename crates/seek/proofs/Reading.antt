@@ -1,7 +1,6 @@
 -- A record is one of the steps of a node, word by word, exactly where its bytes are a step's; and then it is read as that step. Rests on the laws of records by value
 -- (records, proofs/Read) and on it that a record holds every step whole (steps, proofs/World). Assumes nothing.
 use Prim.Native.Nat.{ℕ, _+_, _*_, _≤_}
-use native.Mathlib.Nat.{add-zero}
 use native.Mathlib.Omega.{arith}
 use mathlib.Core.Path.{_≡_, refl, sym, ap, _∙_}
 use mathlib.Core.Bool.{Bool, true, false, cond, _&&_, _||_}

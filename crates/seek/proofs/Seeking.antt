@@ -1,7 +1,7 @@
 -- A record is sought among the steps of a node by one walk round its polygon: what one part of an edge decides, what one edge decides, and what is left to the
 -- edges after it. Rests on the laws of the walk (going, proofs/Left and Parts). Assumes nothing.
 use Prim.Native.Nat.{ℕ, _+_, _≤_, _<_}
-use mathlib.Core.Path.{_≡_, refl, sym, ap, ap₂, _∙_, subst}
+use mathlib.Core.Path.{_≡_, refl, sym, ap, _∙_, subst}
 use mathlib.Core.Bool.{Bool, true, false, not, cond, _&&_, _||_}
 use mathlib.Core.List.{List, [], _∷_, _++_}
 use borrow.Author.Tests.{eq-eqb, ne-eqb}

@@ -1,5 +1,4 @@
 -- `judge_end` meets its contract. Assumes nothing.
-use denote.Ref.{now}
 use mathlib.Core.Path.{sym}
 use borrow.Author.Needs.{needs}
 use Rattle.judge.proofs.Ending.{end-is, end-is-not, end-outside}

@@ -2,11 +2,12 @@
 use borrow.Author.Needs.{needs}
 use denote.Ref.{now}
 use native.Mathlib.Omega.{arith}
-use mathlib.Core.Path.{sym, ap, subst}
+use mathlib.Core.Path.{sym, ap, _∙_, subst}
 use Prim.Native.Nat.{ℕ, _<_}
 use Rattle.plan.specs.Plan.{polygonCountIn}
 use Rattle.steps.specs.declared.Trip.{Trip}
-use Rattle.search.proofs.Doors.{Asking, asked-inside, start-self, asks-inside, asks-refused}
+use Rattle.floor.proofs.Asking.{Asking, asked-inside}
+use Rattle.search.proofs.Doors.{start-self, asks-inside, asks-refused}
 use Rattle.search.proofs.search_on.Statement.{statement}
 use Rattle.search.proofs.search_on.Tie as tie
 
@@ -29,14 +30,15 @@ tripping c = c .before .before .before .before .before
 -- ---- what is known of the question
 
 known : (c : tie.After-known-told) → let s = start (asked c) in
-    Asking (now (s .args .plan)) (now (s .args .question)) (c .before .from .given .0 .0) (c .before .from .given .0 .1 .0)
-known c = asked-inside (start (asked c) .pre) _ (asked c .ask .ensures) (c .before .from .given .1)
+    Asking (now (s .args .plan)) (now (s .args .vertices)) (now (s .args .polygons)) (now (s .args .question))
+    (c .before .from .given .0 .0) (c .before .from .given .0 .1 .0)
+known c = asked-inside (start (asked c) .pre) _ (sym (asked c .ask .ensures) ∙ c .before .from .given .1)
 
 cast-of : tie.Need-cast-of
-cast-of c = omega (arith, known c .start-listed, known c .few-listed)
+cast-of c = omega (arith, known c .from-listed, known c .few)
 
 cast-of-2 : tie.Need-cast-of-2
-cast-of-2 c = omega (arith, known c .goal-listed, known c .few-listed)
+cast-of-2 c = omega (arith, known c .to-listed, known c .few)
 
 of-requires : tie.Need-of-requires
 of-requires c κs = known c .long
@@ -50,7 +52,7 @@ route-between-requires c κs =
     let s = start (asked at-known) in
     let from-is = sym (ap (λ (t : Trip). t .from) (at-of .of .ensures)) in (
       s .pre,
-      subst (λ (n : ℕ). n < polygonCountIn (now (s .args .plan))) from-is (known at-known .start-listed),
+      subst (λ (n : ℕ). n < polygonCountIn (now (s .args .plan))) from-is (known at-known .from-listed),
       start-self _ (known at-known .right) (ap (λ (t : Trip). t .start) (at-of .of .ensures)),
     )
 

@@ -3,7 +3,6 @@ use Prim.Native.Nat.{ℕ, _-_, _<_}
 use native.Mathlib.Omega.{arith}
 use denote.Ref.{now}
 use mathlib.Core.Path.{_≡_, refl, sym, ap, ap₂, _∙_, subst}
-use mathlib.Core.Bool.{Bool}
 use Rattle.walk.specs.declared.Walked.{Walked}
 use Rattle.walk.specs.Turns.{edgeNumberOf, nextOf}
 use Rattle.plan.specs.Plan.{slotsIn}
