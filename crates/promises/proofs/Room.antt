@@ -69,7 +69,7 @@ module _ {plan vs ps : List ℕ} (g : Ground plan vs ps) (bytes : Bytes ps) (tri
     by-finish (Arrived i) at counted steps e =
         let long = route-long plan vs ps task (end .state) (sound .sound) (lawful (slotsIn plan) vs ps bytes trip) i (at .0) in
         let h = sound .sound .held i (at .0) .depth-few in
-        let few = omega (arith, long, h, at .0, sound .sound .taken-in) in
+        let few : length (routeBytes (end .state .work) trip i) ≤ 32 * (placesIn w + 1) = omega (arith, long, h, at .0, sound .sound .taken-in) in
         short-written (routeBytes (end .state .work) trip i) (placesIn w) few counted out steps wide e
     by-finish Emptied at counted steps e = let z : _≡_ {A = ℕ} 0 1 = cc in omega arith
     by-finish Filled at counted steps e = let z : _≡_ {A = ℕ} 0 1 = cc in omega arith
@@ -87,7 +87,7 @@ module _ {plan vs ps : List ℕ} (g : Ground plan vs ps) (bytes : Bytes ps) (tri
 
         go : (b : Bool) → cond {A = Searched} b (withWork w straight) (withWork (end .state .work) around) .answer ≡ Short steps → ⊥
         go true e =
-            let few = omega (arith, straight-long plan vs ps task, at-least-one w places) in
+            let few : length (straightBytes trip) ≤ 32 * (placesIn w + 1) = omega (arith, straight-long plan vs ps task, at-least-one w places) in
             short-written (straightBytes trip) (placesIn w) few 0 out steps wide e
         go false e = by-finish (end .finish) (sound .arrives) (end .state .counts .pops) steps e
 
