@@ -44,6 +44,9 @@ mul-part c = omega (arith, c .loop-test .taken, start (to-loop c) .pre .2 .few)
 element-copy-out-part : tie.Need-element-copy-out-part Inv-loop μ-loop
 element-copy-out-part c = let s = start (to-loop c) in omega (arith, c .loop-test .taken, s .pre .2 .few, s .pre .2 .three)
 
+step-requires : tie.Need-step-requires Inv-loop μ-loop
+step-requires c κs = let s = start (to-loop (c .before)) in (s .pre .0, s .pre .1)
+
 returns : tie.Need-returns Inv-loop μ-loop
 returns c =
     let at-counted = c .before in
@@ -93,5 +96,5 @@ returns-2 c =
 pub count-on-edge-spec : {M : Type 1} → statement M
 count-on-edge-spec =
     tie.close
-    (tie.spec Inv-loop μ-loop loop-holds mul-part element-copy-out-part (λ c κs. search needs) (λ c κs. search needs) (λ c. search needs) returns
+    (tie.spec Inv-loop μ-loop loop-holds mul-part element-copy-out-part step-requires (λ c κs. search needs) (λ c. search needs) returns
     (λ c. search needs) add-j loop-less loop-again returns-2)

@@ -78,6 +78,9 @@ turns c = let l = looping (to-is-over c) in turning _ _ _ (begun l .args .node) 
 returns : tie.Need-returns Inv-loop μ-loop
 returns c = let s = start (c .before) in sym (none-in-goal _ (s .args .goal) (s .args .node) (s .args .k) (c .if1 .taken))
 
+new-requires : tie.Need-new-requires Inv-loop μ-loop
+new-requires c κs = let s = start (to-struct-known c) in (s .pre .0 .vertices-planned, s .pre .1 .first-listed, s .pre .1 .second-listed)
+
 begin-requires : tie.Need-begin-requires Inv-loop μ-loop
 begin-requires c κs = let s = start (to-struct-known (to-if1 c)) in polygon-lies _ _ _ (s .args .node) (s .pre .1)
 
@@ -127,6 +130,9 @@ returns-2 c =
     (l .loop .inv .1) (goes-on at-if2) _ (l .loop .inv .0) _ (at-walk .walk .ensures) _ (at-edge .edge .ensures) _
     (at-count .count-on-edge .ensures) _ (at-counted .counted .given .1))
 
+next-requires : tie.Need-next-requires Inv-loop μ-loop
+next-requires c κs = looping (to-is-over (to-if2 (to-edge (to-walk (to-count-on-edge (c .before)))))) .loop .inv .1 .taken-in
+
 loop-less : tie.Need-loop-less Inv-loop μ-loop
 loop-less c =
     let at-counted2 = to-counted2 c in
@@ -167,5 +173,5 @@ returns-3 c =
 pub kth-step-spec : {M : Type 1} → statement M
 kth-step-spec =
     tie.close
-    (tie.spec Inv-loop μ-loop returns (λ c κs. search needs) begin-requires loop-holds (λ c κs. c .loop .inv .1 .taken-in) edge-requires
-    walk-requires count-on-edge-requires (λ c. search needs) returns-2 (λ c. search needs) (λ c κs. search needs) loop-less loop-again returns-3)
+    (tie.spec Inv-loop μ-loop returns new-requires begin-requires loop-holds (λ c κs. c .loop .inv .1 .taken-in) edge-requires
+    walk-requires count-on-edge-requires (λ c. search needs) returns-2 (λ c. search needs) next-requires loop-less loop-again returns-3)
