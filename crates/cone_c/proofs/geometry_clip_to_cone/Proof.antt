@@ -22,21 +22,28 @@ module _ {clipped : Clipped} {number : ℕ} {out : List ℕ} (before : List ℕ)
 
 returns : tie.Need-returns
 returns c =
-    let c3 = c .before .before .before in
-    let c5 = c3 .before .before in
-    let c6 = c5 .before in
-    let c7 = c6 .before in
-    let c8 = c7 .before in
-    seen _ (simp (c5 .clip-to-cone .ensures, c6 .segment2 .ensures, c7 .segment .ensures, c8 .from-bits .ensures) at (c3 .clipped .given .1)) refl
+    let at-clipped = c .before .before .before in
+    let at-clip-to-cone = at-clipped .before .before in
+    let at-segment2 = at-clip-to-cone .before in
+    let at-segment = at-segment2 .before in
+    let at-from-bits = at-segment .before in
+    seen _ (simp (
+      at-clip-to-cone .clip-to-cone .ensures,
+      at-segment2 .segment2 .ensures,
+      at-segment .segment .ensures,
+      at-from-bits .from-bits .ensures,
+    ) at (at-clipped .clipped .given .1)) refl
     (c .put-segment .ensures)
 
 returns-2 : tie.Need-returns-2
 returns-2 c =
-    let c2 = c .before .before in
-    let c3 = c2 .before in
-    let c4 = c3 .before in
-    let c5 = c4 .before in
-    nothing _ (simp (c2 .clip-to-cone .ensures, c3 .segment2 .ensures, c4 .segment .ensures, c5 .from-bits .ensures) at (c .enum-told .given .1)) refl refl
+    let at-clip-to-cone = c .before .before in
+    let at-segment2 = at-clip-to-cone .before in
+    let at-segment = at-segment2 .before in
+    let at-from-bits = at-segment .before in
+    nothing _
+    (simp (at-clip-to-cone .clip-to-cone .ensures, at-segment2 .segment2 .ensures, at-segment .segment .ensures, at-from-bits .from-bits .ensures)
+    at (c .enum-told .given .1)) refl refl
 
 pub geometry-clip-to-cone-spec : {M : Type 1} → statement M
 geometry-clip-to-cone-spec =

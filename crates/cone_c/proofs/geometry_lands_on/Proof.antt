@@ -5,11 +5,17 @@ use Rattle.cone_c.proofs.geometry_lands_on.Tie as tie
 
 returns : tie.Need-returns
 returns c =
-    let c1 = c .before in
-    let c2 = c1 .before in
-    let c3 = c2 .before in
-    let c4 = c3 .before in
-    simp (c .truth-number .ensures, c1 .lands-on .ensures, c2 .from-bits3 .ensures, c3 .from-bits2 .ensures, c4 .from-bits .ensures)
+    let at-lands-on = c .before in
+    let at-from-bits3 = at-lands-on .before in
+    let at-from-bits2 = at-from-bits3 .before in
+    let at-from-bits = at-from-bits2 .before in
+    simp (
+      c .truth-number .ensures,
+      at-lands-on .lands-on .ensures,
+      at-from-bits3 .from-bits3 .ensures,
+      at-from-bits2 .from-bits2 .ensures,
+      at-from-bits .from-bits .ensures,
+    )
 
 pub geometry-lands-on-spec : {M : Type 1} → statement M
 geometry-lands-on-spec =

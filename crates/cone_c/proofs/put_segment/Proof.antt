@@ -7,11 +7,11 @@ use Rattle.cone_c.proofs.put_segment.Tie as tie
 returns : tie.Need-returns
 unfolding segmentBits
 returns c =
-    let c1 = c .before in
-    let c2 = c1 .before in
-    let c3 = c2 .before in
-    let c4 = c3 .before in
-    simp (c1 .to-bits4 .ensures, c2 .to-bits3 .ensures, c3 .to-bits2 .ensures, c4 .to-bits .ensures)
+    let at-to-bits4 = c .before in
+    let at-to-bits3 = at-to-bits4 .before in
+    let at-to-bits2 = at-to-bits3 .before in
+    let at-to-bits = at-to-bits2 .before in
+    simp (at-to-bits4 .to-bits4 .ensures, at-to-bits3 .to-bits3 .ensures, at-to-bits2 .to-bits2 .ensures, at-to-bits .to-bits .ensures)
 
 pub put-segment-spec : {M : Type 1} → statement M
 put-segment-spec = tie.close (tie.spec (λ c κs. search needs) (λ c κs. search needs) (λ c κs. search needs) (λ c κs. search needs) returns)

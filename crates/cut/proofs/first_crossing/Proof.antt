@@ -7,10 +7,10 @@ use Rattle.cut.proofs.first_crossing.Tie as tie
 returns : tie.Need-returns
 unfolding firstCrossingOf
 returns c =
-    let c1 = c .before in
-    let c2 = c1 .before in
-    let c3 = c2 .before in
-    simp (c .seen-if .ensures, c1 .told-apart .ensures, c2 .cut-if .ensures, c3 .apart-from-both .ensures)
+    let at-told-apart = c .before in
+    let at-cut-if = at-told-apart .before in
+    let at-apart-from-both = at-cut-if .before in
+    simp (c .seen-if .ensures, at-told-apart .told-apart .ensures, at-cut-if .cut-if .ensures, at-apart-from-both .apart-from-both .ensures)
 
 pub first-crossing-spec : {M : Type 1} → statement M
 first-crossing-spec = tie.close (tie.spec (λ c κs. search needs) (λ c κs. search needs) (λ c κs. search needs) (λ c κs. search needs) returns)

@@ -5,11 +5,17 @@ use Rattle.geometry_c.proofs.geometry_heuristic.Tie as tie
 
 returns : tie.Need-returns
 returns c =
-    let c1 = c .before in
-    let c2 = c1 .before in
-    let c3 = c2 .before in
-    let c4 = c3 .before in
-    simp (c .to-bits .ensures, c1 .heuristic .ensures, c2 .segment .ensures, c3 .from-bits2 .ensures, c4 .from-bits .ensures)
+    let at-heuristic = c .before in
+    let at-segment = at-heuristic .before in
+    let at-from-bits2 = at-segment .before in
+    let at-from-bits = at-from-bits2 .before in
+    simp (
+      c .to-bits .ensures,
+      at-heuristic .heuristic .ensures,
+      at-segment .segment .ensures,
+      at-from-bits2 .from-bits2 .ensures,
+      at-from-bits .from-bits .ensures,
+    )
 
 pub geometry-heuristic-spec : {M : Type 1} → statement M
 geometry-heuristic-spec =

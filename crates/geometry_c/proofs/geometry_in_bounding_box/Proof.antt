@@ -5,10 +5,10 @@ use Rattle.geometry_c.proofs.geometry_in_bounding_box.Tie as tie
 
 returns : tie.Need-returns
 returns c =
-    let c1 = c .before in
-    let c2 = c1 .before in
-    let c3 = c2 .before in
-    simp (c .truth-number .ensures, c1 .in-bounding-box .ensures, c2 .segment .ensures, c3 .from-bits .ensures)
+    let at-in-bounding-box = c .before in
+    let at-segment = at-in-bounding-box .before in
+    let at-from-bits = at-segment .before in
+    simp (c .truth-number .ensures, at-in-bounding-box .in-bounding-box .ensures, at-segment .segment .ensures, at-from-bits .from-bits .ensures)
 
 pub geometry-in-bounding-box-spec : {M : Type 1} → statement M
 geometry-in-bounding-box-spec = tie.close (tie.spec (λ c κs. search needs) (λ c κs. search needs) (λ c κs. search needs) (λ c κs. search needs) returns)

@@ -5,10 +5,10 @@ use Rattle.geometry_c.proofs.geometry_intersection_time.Tie as tie
 
 returns : tie.Need-returns
 returns c =
-    let c1 = c .before in
-    let c2 = c1 .before in
-    let c3 = c2 .before in
-    simp (c .to-bits .ensures, c1 .intersection-time .ensures, c2 .segment2 .ensures, c3 .segment .ensures)
+    let at-intersection-time = c .before in
+    let at-segment2 = at-intersection-time .before in
+    let at-segment = at-segment2 .before in
+    simp (c .to-bits .ensures, at-intersection-time .intersection-time .ensures, at-segment2 .segment2 .ensures, at-segment .segment .ensures)
 
 pub geometry-intersection-time-spec : {M : Type 1} → statement M
 geometry-intersection-time-spec =

@@ -9,19 +9,29 @@ use Rattle.geometry_c.proofs.geometry_line_intersect_segment.Tie as tie
 returns : tie.Need-returns
 unfolding crossingNumber crossingWritten
 returns c =
-    let c3 = c .before .before .before in
-    let c5 = c3 .before .before in
-    let c6 = c5 .before in
-    let c7 = c6 .before in
-    rw (← c7 .segment .ensures, ← c6 .segment2 .ensures, ← c5 .line-intersect-segment .ensures, c3 .crossing .given .1) (refl, c .put .ensures)
+    let at-crossing = c .before .before .before in
+    let at-line-intersect-segment = at-crossing .before .before in
+    let at-segment2 = at-line-intersect-segment .before in
+    let at-segment = at-segment2 .before in
+    rw (
+      ← at-segment .segment .ensures,
+      ← at-segment2 .segment2 .ensures,
+      ← at-line-intersect-segment .line-intersect-segment .ensures,
+      at-crossing .crossing .given .1,
+    ) (refl, c .put .ensures)
 
 returns-2 : tie.Need-returns-2
 unfolding crossingNumber crossingWritten
 returns-2 c =
-    let c2 = c .before .before in
-    let c3 = c2 .before in
-    let c4 = c3 .before in
-    rw (← c4 .segment .ensures, ← c3 .segment2 .ensures, ← c2 .line-intersect-segment .ensures, c .enum-told .given .1) (refl, refl)
+    let at-line-intersect-segment = c .before .before in
+    let at-segment2 = at-line-intersect-segment .before in
+    let at-segment = at-segment2 .before in
+    rw (
+      ← at-segment .segment .ensures,
+      ← at-segment2 .segment2 .ensures,
+      ← at-line-intersect-segment .line-intersect-segment .ensures,
+      c .enum-told .given .1,
+    ) (refl, refl)
 
 pub geometry-line-intersect-segment-spec : {M : Type 1} → statement M
 geometry-line-intersect-segment-spec =

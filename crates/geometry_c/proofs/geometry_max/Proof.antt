@@ -5,10 +5,10 @@ use Rattle.geometry_c.proofs.geometry_max.Tie as tie
 
 returns : tie.Need-returns
 returns c =
-    let c1 = c .before in
-    let c2 = c1 .before in
-    let c3 = c2 .before in
-    simp (c .to-bits .ensures, c1 .max .ensures, c2 .from-bits2 .ensures, c3 .from-bits .ensures)
+    let at-max = c .before in
+    let at-from-bits2 = at-max .before in
+    let at-from-bits = at-from-bits2 .before in
+    simp (c .to-bits .ensures, at-max .max .ensures, at-from-bits2 .from-bits2 .ensures, at-from-bits .from-bits .ensures)
 
 pub geometry-max-spec : {M : Type 1} → statement M
 geometry-max-spec = tie.close (tie.spec (λ c κs. search needs) (λ c κs. search needs) (λ c κs. search needs) (λ c κs. search needs) returns)

@@ -5,10 +5,10 @@ use Rattle.geometry_c.proofs.geometry_min.Tie as tie
 
 returns : tie.Need-returns
 returns c =
-    let c1 = c .before in
-    let c2 = c1 .before in
-    let c3 = c2 .before in
-    simp (c .to-bits .ensures, c1 .min .ensures, c2 .from-bits2 .ensures, c3 .from-bits .ensures)
+    let at-min = c .before in
+    let at-from-bits2 = at-min .before in
+    let at-from-bits = at-from-bits2 .before in
+    simp (c .to-bits .ensures, at-min .min .ensures, at-from-bits2 .from-bits2 .ensures, at-from-bits .from-bits .ensures)
 
 pub geometry-min-spec : {M : Type 1} → statement M
 geometry-min-spec = tie.close (tie.spec (λ c κs. search needs) (λ c κs. search needs) (λ c κs. search needs) (λ c κs. search needs) returns)

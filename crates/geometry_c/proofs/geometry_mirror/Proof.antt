@@ -5,10 +5,10 @@ use Rattle.geometry_c.proofs.geometry_mirror.Tie as tie
 
 returns : tie.Need-returns
 returns c =
-    let c2 = c .before .before in
-    let c3 = c2 .before in
-    let c4 = c3 .before in
-    simp (c .put .ensures, c2 .mirror .ensures, c3 .segment .ensures, c4 .from-bits .ensures)
+    let at-mirror = c .before .before in
+    let at-segment = at-mirror .before in
+    let at-from-bits = at-segment .before in
+    simp (c .put .ensures, at-mirror .mirror .ensures, at-segment .segment .ensures, at-from-bits .from-bits .ensures)
 
 pub geometry-mirror-spec : {M : Type 1} → statement M
 geometry-mirror-spec = tie.close (tie.spec (λ c κs. search needs) (λ c κs. search needs) (λ c κs. search needs) (λ c κs. search needs) returns)

@@ -5,10 +5,10 @@ use Rattle.geometry_c.proofs.geometry_on_segment.Tie as tie
 
 returns : tie.Need-returns
 returns c =
-    let c1 = c .before in
-    let c2 = c1 .before in
-    let c3 = c2 .before in
-    simp (c .truth-number .ensures, c1 .on-segment .ensures, c2 .segment .ensures, c3 .from-bits .ensures)
+    let at-on-segment = c .before in
+    let at-segment = at-on-segment .before in
+    let at-from-bits = at-segment .before in
+    simp (c .truth-number .ensures, at-on-segment .on-segment .ensures, at-segment .segment .ensures, at-from-bits .from-bits .ensures)
 
 pub geometry-on-segment-spec : {M : Type 1} → statement M
 geometry-on-segment-spec = tie.close (tie.spec (λ c κs. search needs) (λ c κs. search needs) (λ c κs. search needs) (λ c κs. search needs) returns)

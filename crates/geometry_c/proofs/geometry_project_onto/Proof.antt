@@ -5,10 +5,10 @@ use Rattle.geometry_c.proofs.geometry_project_onto.Tie as tie
 
 returns : tie.Need-returns
 returns c =
-    let c2 = c .before .before in
-    let c3 = c2 .before in
-    let c4 = c3 .before in
-    simp (c .put .ensures, c2 .project-onto .ensures, c3 .from-bits2 .ensures, c4 .from-bits .ensures)
+    let at-project-onto = c .before .before in
+    let at-from-bits2 = at-project-onto .before in
+    let at-from-bits = at-from-bits2 .before in
+    simp (c .put .ensures, at-project-onto .project-onto .ensures, at-from-bits2 .from-bits2 .ensures, at-from-bits .from-bits .ensures)
 
 pub geometry-project-onto-spec : {M : Type 1} → statement M
 geometry-project-onto-spec = tie.close (tie.spec (λ c κs. search needs) (λ c κs. search needs) (λ c κs. search needs) (λ c κs. search needs) returns)

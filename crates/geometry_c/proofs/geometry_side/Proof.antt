@@ -5,10 +5,10 @@ use Rattle.geometry_c.proofs.geometry_side.Tie as tie
 
 returns : tie.Need-returns
 returns c =
-    let c1 = c .before in
-    let c2 = c1 .before in
-    let c3 = c2 .before in
-    simp (c .side-number .ensures, c1 .side .ensures, c2 .segment .ensures, c3 .from-bits .ensures)
+    let at-side = c .before in
+    let at-segment = at-side .before in
+    let at-from-bits = at-segment .before in
+    simp (c .side-number .ensures, at-side .side .ensures, at-segment .segment .ensures, at-from-bits .from-bits .ensures)
 
 pub geometry-side-spec : {M : Type 1} → statement M
 geometry-side-spec = tie.close (tie.spec (λ c κs. search needs) (λ c κs. search needs) (λ c κs. search needs) (λ c κs. search needs) returns)

@@ -9,22 +9,34 @@ use Rattle.geometry_c.proofs.geometry_turning_point.Tie as tie
 returns : tie.Need-returns
 unfolding turnNumber turnWritten
 returns c =
-    let c3 = c .before .before .before in
-    let c5 = c3 .before .before in
-    let c6 = c5 .before in
-    let c7 = c6 .before in
-    let c8 = c7 .before in
-    rw (← c8 .from-bits .ensures, ← c7 .from-bits2 .ensures, ← c6 .segment .ensures, ← c5 .turning-point .ensures, c3 .turn .given .1)
+    let at-turn = c .before .before .before in
+    let at-turning-point = at-turn .before .before in
+    let at-segment = at-turning-point .before in
+    let at-from-bits2 = at-segment .before in
+    let at-from-bits = at-from-bits2 .before in
+    rw (
+      ← at-from-bits .from-bits .ensures,
+      ← at-from-bits2 .from-bits2 .ensures,
+      ← at-segment .segment .ensures,
+      ← at-turning-point .turning-point .ensures,
+      at-turn .turn .given .1,
+    )
     (refl, c .put .ensures)
 
 returns-2 : tie.Need-returns-2
 unfolding turnNumber turnWritten
 returns-2 c =
-    let c2 = c .before .before in
-    let c3 = c2 .before in
-    let c4 = c3 .before in
-    let c5 = c4 .before in
-    rw (← c5 .from-bits .ensures, ← c4 .from-bits2 .ensures, ← c3 .segment .ensures, ← c2 .turning-point .ensures, c .enum-told .given .1) (refl, refl)
+    let at-turning-point = c .before .before in
+    let at-segment = at-turning-point .before in
+    let at-from-bits2 = at-segment .before in
+    let at-from-bits = at-from-bits2 .before in
+    rw (
+      ← at-from-bits .from-bits .ensures,
+      ← at-from-bits2 .from-bits2 .ensures,
+      ← at-segment .segment .ensures,
+      ← at-turning-point .turning-point .ensures,
+      c .enum-told .given .1,
+    ) (refl, refl)
 
 pub geometry-turning-point-spec : {M : Type 1} → statement M
 geometry-turning-point-spec =

@@ -7,9 +7,9 @@ use Rattle.geometry_c.proofs.put.Tie as tie
 returns : tie.Need-returns
 unfolding pointBits
 returns c =
-    let c1 = c .before in
-    let c2 = c1 .before in
-    simp (c1 .to-bits2 .ensures, c2 .to-bits .ensures)
+    let at-to-bits2 = c .before in
+    let at-to-bits = at-to-bits2 .before in
+    simp (at-to-bits2 .to-bits2 .ensures, at-to-bits .to-bits .ensures)
 
 pub put-spec : {M : Type 1} → statement M
 put-spec = tie.close (tie.spec (λ c κs. search needs) (λ c κs. search needs) returns)

@@ -7,11 +7,11 @@ use Rattle.helpers.proofs.intersection_time.Tie as tie
 returns : tie.Need-returns
 unfolding intersectionTimeOf
 returns c =
-    let c1 = c .before in
-    let c2 = c1 .before in
-    let c3 = c2 .before in
-    let c4 = c3 .before in
-    simp (c .perp-dot2 .ensures, c1 .minus3 .ensures, c2 .perp-dot .ensures, c3 .minus2 .ensures, c4 .minus .ensures)
+    let at-minus3 = c .before in
+    let at-perp-dot = at-minus3 .before in
+    let at-minus2 = at-perp-dot .before in
+    let at-minus = at-minus2 .before in
+    simp (c .perp-dot2 .ensures, at-minus3 .minus3 .ensures, at-perp-dot .perp-dot .ensures, at-minus2 .minus2 .ensures, at-minus .minus .ensures)
 
 pub intersection-time-spec : {M : Type 1} → statement M
 intersection-time-spec =

@@ -9,21 +9,21 @@ use Rattle.helpers.proofs.line_intersect_segment.Tie as tie
 returns : tie.Need-returns
 unfolding lineIntersectSegmentOf
 returns c =
-    let c1 = c .before in
-    let c2 = c1 .before in
-    let c3 = c2 .before in
-    let c4 = c3 .before in
-    let c5 = c4 .before in
-    let c6 = c5 .before in
-    taken _ _ (simp (c5 .crosses .ensures, c6 .intersection-time .ensures) at (c4 .if1 .taken))
-    (simp (c .plus .ensures, c1 .times .ensures, c2 .clamp .ensures, c3 .minus .ensures, c6 .intersection-time .ensures))
+    let at-times = c .before in
+    let at-clamp = at-times .before in
+    let at-minus = at-clamp .before in
+    let at-if1 = at-minus .before in
+    let at-crosses = at-if1 .before in
+    let at-intersection-time = at-crosses .before in
+    taken _ _ (simp (at-crosses .crosses .ensures, at-intersection-time .intersection-time .ensures) at (at-if1 .if1 .taken))
+    (simp (c .plus .ensures, at-times .times .ensures, at-clamp .clamp .ensures, at-minus .minus .ensures, at-intersection-time .intersection-time .ensures))
 
 returns-2 : tie.Need-returns-2
 unfolding lineIntersectSegmentOf
 returns-2 c =
-    let c1 = c .before in
-    let c2 = c1 .before in
-    left _ _ (simp (c1 .crosses .ensures, c2 .intersection-time .ensures) at (c .if1 .left)) refl
+    let at-crosses = c .before in
+    let at-intersection-time = at-crosses .before in
+    left _ _ (simp (at-crosses .crosses .ensures, at-intersection-time .intersection-time .ensures) at (c .if1 .left)) refl
 
 pub line-intersect-segment-spec : {M : Type 1} → statement M
 line-intersect-segment-spec =

@@ -7,10 +7,10 @@ use Rattle.records.proofs.point_in.Tie as tie
 returns : tie.Need-returns
 unfolding pointIn
 returns c =
-    let c1 = c .before in
-    let c2 = c1 .before in
-    let c3 = c2 .before in
-    rw (← c3 .read .ensures, ← c2 .from-bits .ensures, ← c1 .read2 .ensures, ← c .from-bits2 .ensures)
+    let at-read2 = c .before in
+    let at-from-bits = at-read2 .before in
+    let at-read = at-from-bits .before in
+    rw (← at-read .read .ensures, ← at-from-bits .from-bits .ensures, ← at-read2 .read2 .ensures, ← c .from-bits2 .ensures)
 
 pub point-in-spec : {M : Type 1} → statement M
 point-in-spec =

@@ -9,26 +9,27 @@ use Rattle.view.proofs.is_interval.Tie as tie
 returns : tie.Need-returns
 unfolding isInterval
 returns c =
-    let c1 = c .before in
-    let s = c1 .before .before .before in
-    taken {test = sameOf (s .args .interval .0) (s .args .interval .1)} _ _ (sym (c1 .same .ensures) ∙ c .if1 .taken) refl
+    let at-same = c .before in
+    let s = at-same .before .before .before in
+    taken {test = sameOf (s .args .interval .0) (s .args .interval .1)} _ _ (sym (at-same .same .ensures) ∙ c .if1 .taken) refl
 
 returns-2 : tie.Need-returns-2
 unfolding isInterval
 returns-2 c =
-    let c1 = c .before in
-    let c2 = c1 .before in
-    let c3 = c2 .before in
-    let c4 = c3 .before in
-    left _ _ (sym (c4 .same .ensures) ∙ c3 .if1 .left) (and-taken _ _ (sym (c2 .is-finite .ensures) ∙ c1 .if2 .taken) (c .is-finite2 .ensures))
+    let at-if2 = c .before in
+    let at-is-finite = at-if2 .before in
+    let at-if1 = at-is-finite .before in
+    let at-same = at-if1 .before in
+    left _ _ (sym (at-same .same .ensures) ∙ at-if1 .if1 .left)
+    (and-taken _ _ (sym (at-is-finite .is-finite .ensures) ∙ at-if2 .if2 .taken) (c .is-finite2 .ensures))
 
 returns-3 : tie.Need-returns-3
 unfolding isInterval
 returns-3 c =
-    let c1 = c .before in
-    let c2 = c1 .before in
-    let c3 = c2 .before in
-    left _ _ (sym (c3 .same .ensures) ∙ c2 .if1 .left) (rw (← c1 .is-finite .ensures, c .if2 .left) refl)
+    let at-is-finite = c .before in
+    let at-if1 = at-is-finite .before in
+    let at-same = at-if1 .before in
+    left _ _ (sym (at-same .same .ensures) ∙ at-if1 .if1 .left) (rw (← at-is-finite .is-finite .ensures, c .if2 .left) refl)
 
 pub is-interval-spec : {M : Type 1} → statement M
 is-interval-spec =

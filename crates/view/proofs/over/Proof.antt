@@ -8,34 +8,39 @@ use Rattle.view.proofs.over.Tie as tie
 returns : tie.Need-returns
 unfolding overBy
 returns c =
-    let c1 = c .before in
-    let c3 = c1 .before .before in
-    let c5 = c3 .before .before in
-    rw (← c5 .clip-if .ensures, c3 .clipped .given .1, ← c1 .is-interval .ensures, not-true (c .before .is-interval .result) (c .if1 .taken))
+    let at-is-interval = c .before in
+    let at-clipped = at-is-interval .before .before in
+    let at-clip-if = at-clipped .before .before in
+    rw (
+      ← at-clip-if .clip-if .ensures,
+      at-clipped .clipped .given .1,
+      ← at-is-interval .is-interval .ensures,
+      not-true (c .before .is-interval .result) (c .if1 .taken),
+    )
 
 returns-2 : tie.Need-returns-2
 unfolding overBy
 returns-2 c =
-    let c1 = c .before in
-    let c2 = c1 .before in
-    let c3 = c2 .before in
-    let c5 = c3 .before .before in
-    let c7 = c5 .before .before in
+    let at-corner = c .before in
+    let at-if1 = at-corner .before in
+    let at-is-interval = at-if1 .before in
+    let at-clipped = at-is-interval .before .before in
+    let at-clip-if = at-clipped .before .before in
     rw (
-      ← c7 .clip-if .ensures,
-      c5 .clipped .given .1,
-      ← c3 .is-interval .ensures,
-      not-false (c2 .before .is-interval .result)
-          (c2 .if1 .left),
-      ← c1 .corner .ensures,
+      ← at-clip-if .clip-if .ensures,
+      at-clipped .clipped .given .1,
+      ← at-is-interval .is-interval .ensures,
+      not-false (at-if1 .before .is-interval .result)
+          (at-if1 .if1 .left),
+      ← at-corner .corner .ensures,
       ← c .corner-after .ensures,
     )
 
 returns-3 : tie.Need-returns-3
 unfolding overBy
 returns-3 c =
-    let c2 = c .before .before in
-    rw (← c2 .clip-if .ensures, c .enum-told .given .1)
+    let at-clip-if = c .before .before in
+    rw (← at-clip-if .clip-if .ensures, c .enum-told .given .1)
 
 pub over-spec : {M : Type 1} → statement M
 over-spec =

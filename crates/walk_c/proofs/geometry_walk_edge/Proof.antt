@@ -16,29 +16,32 @@ cast-result c = omega (arith, at-most-three _ _ _ _ (c .before .before .before .
 
 returns : tie.Need-returns
 returns c =
-    let c1 = c .before in
-    let c2 = c1 .before in
-    let c5 = c2 .before .before .before in
-    let c6 = c5 .before in
-    let c7 = c6 .before in
-    let c8 = c7 .before in
-    let c10 = c8 .before .before in
-    let c12 = c10 .before .before in
+    let at-kind-number = c .before in
+    let at-put-parts = at-kind-number .before in
+    let at-walk-edge = at-put-parts .before .before .before in
+    let at-segment2 = at-walk-edge .before in
+    let at-segment = at-segment2 .before in
+    let at-from-bits = at-segment .before in
+    let at-asked = at-from-bits .before .before in
+    let at-kind-asked = at-asked .before .before in
     rw (
-      ← c12 .kind-asked .ensures,
-      ← c8 .from-bits .ensures,
-      ← c7 .segment .ensures,
-      ← c6 .segment2 .ensures,
-      c1 .kind-number .ensures,
-      c2 .put-parts .ensures,
+      ← at-kind-asked .kind-asked .ensures,
+      ← at-from-bits .from-bits .ensures,
+      ← at-segment .segment .ensures,
+      ← at-segment2 .segment2 .ensures,
+      at-kind-number .kind-number .ensures,
+      at-put-parts .put-parts .ensures,
+    ) (
+      number-of-parts _ _ _ _ (at-walk-edge .walk-edge .ensures) (at-asked .asked .given .1),
+      written-parts _ _ _ _ (at-walk-edge .walk-edge .ensures)
+          (at-asked .asked .given .1) _,
     )
-    (number-of-parts _ _ _ _ (c5 .walk-edge .ensures) (c10 .asked .given .1), written-parts _ _ _ _ (c5 .walk-edge .ensures) (c10 .asked .given .1) _)
 
 returns-2 : tie.Need-returns-2
 unfolding walkNumber walkWritten
 returns-2 c =
-    let c2 = c .before .before in
-    rw (← c2 .kind-asked .ensures, c .enum-told .given .1) (refl, refl)
+    let at-kind-asked = c .before .before in
+    rw (← at-kind-asked .kind-asked .ensures, c .enum-told .given .1) (refl, refl)
 
 pub geometry-walk-edge-spec : {M : Type 1} → statement M
 geometry-walk-edge-spec =

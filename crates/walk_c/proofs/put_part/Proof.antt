@@ -8,19 +8,19 @@ use Rattle.walk_c.proofs.put_part.Tie as tie
 returns : tie.Need-returns
 unfolding partWords
 returns c =
-    let c1 = c .before in
-    let c2 = c1 .before in
-    let c3 = c2 .before in
-    let c4 = c3 .before in
+    let at-to-bits4 = c .before in
+    let at-to-bits3 = at-to-bits4 .before in
+    let at-to-bits2 = at-to-bits3 .before in
+    let at-to-bits = at-to-bits2 .before in
     simp (
       add-one,
       add-two,
       add-three,
       add-four,
-      c4 .to-bits .ensures,
-      c3 .to-bits2 .ensures,
-      c2 .to-bits3 .ensures,
-      c1 .to-bits4 .ensures,
+      at-to-bits .to-bits .ensures,
+      at-to-bits2 .to-bits2 .ensures,
+      at-to-bits3 .to-bits3 .ensures,
+      at-to-bits4 .to-bits4 .ensures,
       c .kind-number .ensures,
     )
 

@@ -7,11 +7,11 @@ use Rattle.cone.proofs.Part.of.Tie as tie
 returns : tie.Need-returns
 unfolding partOf
 returns c =
-    let c1 = c .before in
-    let c2 = c1 .before in
-    let c3 = c2 .before in
-    let c4 = c3 .before in
-    simp (c .plus2 .ensures, c1 .times2 .ensures, c2 .plus .ensures, c3 .times .ensures, c4 .minus .ensures)
+    let at-times2 = c .before in
+    let at-plus = at-times2 .before in
+    let at-times = at-plus .before in
+    let at-minus = at-times .before in
+    simp (c .plus2 .ensures, at-times2 .times2 .ensures, at-plus .plus .ensures, at-times .times .ensures, at-minus .minus .ensures)
 
 pub of-spec : {M : Type 1} → statement M
 of-spec =

@@ -7,9 +7,9 @@ use Rattle.point.proofs.Point.from_bits.Tie as tie
 returns : tie.Need-returns
 unfolding fromBitsOf
 returns c =
-    let c1 = c .before in
-    let c2 = c1 .before in
-    simp (c .new .ensures, c1 .from-bits2 .ensures, c2 .from-bits .ensures)
+    let at-from-bits2 = c .before in
+    let at-from-bits = at-from-bits2 .before in
+    simp (c .new .ensures, at-from-bits2 .from-bits2 .ensures, at-from-bits .from-bits .ensures)
 
 pub from-bits-spec : {M : Type 1} → statement M
 from-bits-spec = tie.close (tie.spec (λ c κs. search needs) (λ c κs. search needs) (λ c κs. search needs) returns)

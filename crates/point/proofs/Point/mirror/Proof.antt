@@ -7,12 +7,19 @@ use Rattle.point.proofs.Point.mirror.Tie as tie
 returns : tie.Need-returns
 unfolding mirrorOf
 returns c =
-    let c1 = c .before in
-    let c2 = c1 .before in
-    let c3 = c2 .before in
-    let c4 = c3 .before in
-    let c5 = c4 .before in
-    simp (c .plus .ensures, c1 .minus3 .ensures, c2 .times .ensures, c3 .project-onto .ensures, c4 .minus2 .ensures, c5 .minus .ensures)
+    let at-minus3 = c .before in
+    let at-times = at-minus3 .before in
+    let at-project-onto = at-times .before in
+    let at-minus2 = at-project-onto .before in
+    let at-minus = at-minus2 .before in
+    simp (
+      c .plus .ensures,
+      at-minus3 .minus3 .ensures,
+      at-times .times .ensures,
+      at-project-onto .project-onto .ensures,
+      at-minus2 .minus2 .ensures,
+      at-minus .minus .ensures,
+    )
 
 pub mirror-spec : {M : Type 1} → statement M
 mirror-spec =

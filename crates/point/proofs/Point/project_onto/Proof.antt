@@ -7,10 +7,10 @@ use Rattle.point.proofs.Point.project_onto.Tie as tie
 returns : tie.Need-returns
 unfolding projectOntoOf
 returns c =
-    let c1 = c .before in
-    let c2 = c1 .before in
-    let c3 = c2 .before in
-    simp (c .times2 .ensures, c1 .dot2 .ensures, c2 .times .ensures, c3 .dot .ensures)
+    let at-dot2 = c .before in
+    let at-times = at-dot2 .before in
+    let at-dot = at-times .before in
+    simp (c .times2 .ensures, at-dot2 .dot2 .ensures, at-times .times .ensures, at-dot .dot .ensures)
 
 pub project-onto-spec : {M : Type 1} → statement M
 project-onto-spec = tie.close (tie.spec (λ c κs. search needs) (λ c κs. search needs) (λ c κs. search needs) (λ c κs. search needs) returns)

@@ -8,8 +8,8 @@ use Rattle.point.proofs.Point.same.Tie as tie
 returns : tie.Need-returns
 unfolding sameOf
 returns c =
-    let c2 = c .before .before in
-    and-taken _ _ (c2 .if1 .taken) refl
+    let at-if1 = c .before .before in
+    and-taken _ _ (at-if1 .if1 .taken) refl
 
 returns-2 : tie.Need-returns-2
 unfolding sameOf

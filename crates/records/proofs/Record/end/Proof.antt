@@ -7,9 +7,9 @@ use Rattle.records.proofs.Record.end.Tie as tie
 returns : tie.Need-returns
 unfolding endRecord endWords
 returns c =
-    let c1 = c .before in
-    let c2 = c1 .before in
-    rw (← c2 .to-bits .ensures, ← c1 .to-bits2 .ensures, ← c .to-bits3 .ensures)
+    let at-to-bits2 = c .before in
+    let at-to-bits = at-to-bits2 .before in
+    rw (← at-to-bits .to-bits .ensures, ← at-to-bits2 .to-bits2 .ensures, ← c .to-bits3 .ensures)
 
 pub end-spec : {M : Type 1} → statement M
 end-spec =

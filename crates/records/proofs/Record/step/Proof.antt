@@ -7,11 +7,17 @@ use Rattle.records.proofs.Record.step.Tie as tie
 returns : tie.Need-returns
 unfolding stepRecord stepWords
 returns c =
-    let c1 = c .before in
-    let c2 = c1 .before in
-    let c3 = c2 .before in
-    let c4 = c3 .before in
-    rw (← c4 .kind-number .ensures, ← c3 .to-bits .ensures, ← c2 .to-bits2 .ensures, ← c1 .to-bits3 .ensures, ← c .to-bits4 .ensures)
+    let at-to-bits3 = c .before in
+    let at-to-bits2 = at-to-bits3 .before in
+    let at-to-bits = at-to-bits2 .before in
+    let at-kind-number = at-to-bits .before in
+    rw (
+      ← at-kind-number .kind-number .ensures,
+      ← at-to-bits .to-bits .ensures,
+      ← at-to-bits2 .to-bits2 .ensures,
+      ← at-to-bits3 .to-bits3 .ensures,
+      ← c .to-bits4 .ensures,
+    )
 
 pub step-spec : {M : Type 1} → statement M
 step-spec =

@@ -9,24 +9,24 @@ use Rattle.steps.proofs.Node.root_after.Tie as tie
 returns : tie.Need-returns
 unfolding rootAfter
 returns c =
-    let c1 = c .before in
-    rw (c1 .enum-told .given .1) refl
+    let at-enum-told = c .before in
+    rw (at-enum-told .enum-told .given .1) refl
 
 returns-2 : tie.Need-returns-2
 unfolding rootAfter
 returns-2 c =
-    let c2 = c .before .before in
-    let c6 = c2 .before .before .before in
-    rw (c2 .enum-told2 .given .1)
-    (c .used-vertex .ensures ∙ sym (vertex-used (now (c6 .args .vertices)) (c6 .args .self .first) (c6 .pre .0)))
+    let at-enum-told2 = c .before .before in
+    let s = at-enum-told2 .before .before .before in
+    rw (at-enum-told2 .enum-told2 .given .1)
+    (c .used-vertex .ensures ∙ sym (vertex-used (now (s .args .vertices)) (s .args .self .first) (s .pre .0)))
 
 returns-3 : tie.Need-returns-3
 unfolding rootAfter
 returns-3 c =
-    let c2 = c .before .before in
-    let c6 = c2 .before .before .before in
-    rw (c2 .enum-told3 .given .1)
-    (c .used-vertex2 .ensures ∙ sym (vertex-used (now (c6 .args .vertices)) (c6 .args .self .second) (c6 .pre .1)))
+    let at-enum-told3 = c .before .before in
+    let s = at-enum-told3 .before .before .before in
+    rw (at-enum-told3 .enum-told3 .given .1)
+    (c .used-vertex2 .ensures ∙ sym (vertex-used (now (s .args .vertices)) (s .args .self .second) (s .pre .1)))
 
 pub root-after-spec : {M : Type 1} → statement M
 root-after-spec =
