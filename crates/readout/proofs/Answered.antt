@@ -39,7 +39,8 @@ module _ (points : List Point) (out : List Float) (count : ℕ) (e : count ≡ l
       let l : length out < length points * 2 = subst (λ (n : ℕ). length out < n * 2) e h in
       (rw (lt-ltb (length out) (length points * 2) l), rw (lt-ltb (length out) (length points * 2) l))
 
-  pub listed-is : (out' : List Float) → count * 2 ≤ length out → out' ≡ sets out 0 (floatsOf points) → (Listed count ≡ listed points out) × (out' ≡ listing points out)
+  pub listed-is : (out' : List Float) → count * 2 ≤ length out → out' ≡ sets out 0 (floatsOf points)
+      → (Listed count ≡ listed points out) × (out' ≡ listing points out)
   unfolding listed listing
   listed-is out' h d =
       let l : length points * 2 ≤ length out = subst (λ (n : ℕ). n * 2 ≤ length out) e h in
@@ -48,7 +49,8 @@ module _ (points : List Point) (out : List Float) (count : ℕ) (e : count ≡ l
 -- ---- by what the judge says
 
 module _ (x : Judged) (points : List Point) (out : List Float) where
-  pub read-accepted : (r : Readout) (out' : List Float) → x ≡ Accepted → (r ≡ listed points out) × (out' ≡ listing points out) → (r ≡ answerIf (Read x) points out) × (out' ≡ outIf (Read x) points out)
+  pub read-accepted : (r : Readout) (out' : List Float) → x ≡ Accepted → (r ≡ listed points out) × (out' ≡ listing points out)
+      → (r ≡ answerIf (Read x) points out) × (out' ≡ outIf (Read x) points out)
   read-accepted r out' e h = (rw e (h .0), rw e (h .1))
 
   pub read-length : x ≡ Length → (Unread (Read Length) ≡ answerIf (Read x) points out) × (out ≡ outIf (Read x) points out)
@@ -65,7 +67,8 @@ module _ (x : Judged) (points : List Point) (out : List Float) where
 
 -- ---- the question
 
-module _ {plan vs ps : List ℕ} (g : Ground plan vs ps) (question route : List ℕ) (out : List Float) {look : Look} (asked : look ≡ askOf (floorIn plan vs ps) question) where
+module _ {plan vs ps : List ℕ} (g : Ground plan vs ps) (question route : List ℕ) (out : List Float)
+    {look : Look} (asked : look ≡ askOf (floorIn plan vs ps) question) where
   abbrev f : Floor
   f = floorIn plan vs ps
 
@@ -92,7 +95,8 @@ module _ {plan vs ps : List ℕ} (g : Ground plan vs ps) (question route : List 
     same-points = ap₂ (λ (x : World Node) (y : Point). pointsOf x y route) same-world (ap (λ (x : Trip). x .goal) t)
 
     pub reads-inside : {r : Readout} {out' : List Float}
-        → (r ≡ answerIf (Read (judgeOf w route)) (pointsOf w (trip .goal) route) out) × (out' ≡ outIf (Read (judgeOf w route)) (pointsOf w (trip .goal) route) out)
+        → let said = Read (judgeOf w route) in let points = pointsOf w (trip .goal) route in
+        (r ≡ answerIf said points out) × (out' ≡ outIf said points out)
         → (r ≡ readoutOn f question route out) × (out' ≡ writtenOn f question route out)
     unfolding readoutOn writtenOn
     reads-inside h = (

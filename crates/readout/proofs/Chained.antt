@@ -1,5 +1,5 @@
--- The parent chain record by record: what is known of an accepted file, and what one step adds to the points. Rests on points in a slice (proofs/Placed). Assumes
--- nothing.
+-- The parent chain record by record: what is known of an accepted file, and what one step adds to the points. Rests on points in a slice
+-- (proofs/Placed). Assumes nothing.
 use Prim.Native.Nat.{ℕ, suc, _+_, _-_, _*_, _≤_, _<_}
 use native.Mathlib.Omega.{arith}
 use mathlib.Core.Path.{_≡_, refl, sym, ap, ap₂, _∙_}
@@ -45,7 +45,8 @@ accepted-stops-not w file i e d = let z : _≡_ {A = ℕ} 0 1 = cc in omega arit
 -- ---- one step of the chain
 
 module _ (w : World Node) (file : List ℕ) (node : Node) (i last : ℕ) where
-  pub chain-step : (t : Step) → i < last → findStep (w .stepsFrom node) (recordAt file i) ≡ Found t → chainFrom w file node i (last - i) ≡ w .enter node t ∷ chainFrom w file (w .enter node t) (i + 1) (last - (i + 1))
+  pub chain-step : (t : Step) → i < last → findStep (w .stepsFrom node) (recordAt file i) ≡ Found t
+      → chainFrom w file node i (last - i) ≡ w .enter node t ∷ chainFrom w file (w .enter node t) (i + 1) (last - (i + 1))
   unfolding chainFrom
   chain-step t l e =
       let n : last - i ≡ suc (last - (i + 1)) = omega arith in
@@ -95,7 +96,9 @@ module _ (vertices : List Point) (goal : Point) (node : Node) (t : Step) (rest :
       go false e = two e
 
   -- put into its places, it leaves the others to be put behind it
-  pub step-places : (out : List Float) → sets (putRoot out node next) (next .points * 2) (floatsOf (pointsAlong goal next rest)) ≡ sets out (node .points * 2) (floatsOf (pointsAlong goal node (next ∷ rest)))
+  pub step-places : (out : List Float)
+      → sets (putRoot out node next) (next .points * 2) (floatsOf (pointsAlong goal next rest))
+      ≡ sets out (node .points * 2) (floatsOf (pointsAlong goal node (next ∷ rest)))
   step-places out =
       by-root
       (λ e.

@@ -1,5 +1,5 @@
--- The end record carries the count of the points: of an accepted file the last record is the end of the last node of the parent chain, and that node's ending has as many
--- points as the route. Rests on the chain record by record (proofs/Chained). Assumes nothing.
+-- The end record carries the count of the points: of an accepted file the last record is the end of the last node of the parent chain, and that
+-- node's ending has as many points as the route. Rests on the chain record by record (proofs/Chained). Assumes nothing.
 use Prim.Native.Nat.{ℕ, zero, suc, _+_, _-_, _*_, _/_, _≤_, _<_, _^_}
 use native.Mathlib.Omega.{arith}
 use mathlib.Core.Path.{_≡_, refl, sym, ap, _∙_, subst}
@@ -65,7 +65,8 @@ module _ (w : World Node) (file : List ℕ) where
       go true false h a = absurd a
       go false b h a = absurd a
 
-  pub end-of-chain : (left : ℕ) (node : Node) (i : ℕ) → judgeFrom w file node i left ≡ Accepted → recordAt file (i + left) ≡ w .endBytes (lastOf node (chainFrom w file node i left))
+  pub end-of-chain : (left : ℕ) (node : Node) (i : ℕ) → judgeFrom w file node i left ≡ Accepted
+      → recordAt file (i + left) ≡ w .endBytes (lastOf node (chainFrom w file node i left))
   unfolding judgeFrom chainFrom lastOf accepts onwards
   end-of-chain zero node i e =
       let n : i + 0 ≡ i = omega arith in
@@ -73,7 +74,8 @@ module _ (w : World Node) (file : List ℕ) where
   end-of-chain (suc left) node i e = go (findStep (w .stepsFrom node) (recordAt file i)) e (λ t. end-of-chain left (w .enter node t) (i + 1))
     where
       go : (x : Sought) → onwards x (λ s. judgeFrom w file (w .enter node s) (i + 1) left) (NotStep i) ≡ Accepted
-          → ((t : Step) → judgeFrom w file (w .enter node t) (i + 1) left ≡ Accepted → recordAt file (i + 1 + left) ≡ w .endBytes (lastOf (w .enter node t) (chainFrom w file (w .enter node t) (i + 1) left)))
+          → ((t : Step) → let next = w .enter node t in judgeFrom w file next (i + 1) left ≡ Accepted
+          → recordAt file (i + 1 + left) ≡ w .endBytes (lastOf next (chainFrom w file next (i + 1) left)))
           → recordAt file (i + suc left) ≡ w .endBytes (lastOf node (onto x (λ s. w .enter node s ∷ chainFrom w file (w .enter node s) (i + 1) left)))
       go (Found t) d below =
           let n : i + suc left ≡ i + 1 + left = omega arith in
@@ -89,7 +91,8 @@ module _ (w : World Node) (file : List ℕ) where
       let n : length file / 32 ≡ length file / 32 - 1 + 1 = omega arith in
       let m : length file / 32 - 1 - 1 ≡ length file / 32 - 2 = omega arith in
       let k : length file / 32 - 1 ≡ 1 + (length file / 32 - 2) = omega arith in
-      let f : judgeFrom w file (w .seed) 1 (length file / 32 - 2) ≡ Accepted = ap (judgeFrom w file (w .seed) 1) (sym m) ∙ sym (begins w file r (accepted-seed w file e) (length file / 32 - 1) n) ∙ e in
+      let f : judgeFrom w file (w .seed) 1 (length file / 32 - 2) ≡ Accepted =
+      ap (judgeFrom w file (w .seed) 1) (sym m) ∙ sym (begins w file r (accepted-seed w file e) (length file / 32 - 1) n) ∙ e in
       ap (recordAt file) k ∙ end-of-chain (length file / 32 - 2) (w .seed) 1 f
 
 -- ---- as many points as the ending says
@@ -103,7 +106,8 @@ module _ (goal : Point) (node : Node) where
       round (Around p) = refl
       round Straight = refl
 
-      go : (b : Bool) (t : Turn) → cond b (lastLeg goal node Straight) (lastLeg goal node t) .points ≡ node .points + length (cond b (goal ∷ []) (goingRound t goal))
+      go : (b : Bool) (t : Turn)
+          → cond b (lastLeg goal node Straight) (lastLeg goal node t) .points ≡ node .points + length (cond b (goal ∷ []) (goingRound t goal))
       go true t = refl
       go false t = round t
 
@@ -123,7 +127,9 @@ module _ (f : Floor) (trip : Trip) (file : List ℕ) where
   chain-count zero node i = last-count goal node ∙ ap (λ (l : List Point). node .points + length l) (sym (along-end goal node))
   chain-count (suc left) node i = go (findStep (stepsFrom f (trip .to) node) (recordAt file i)) (λ t. chain-count left (into node t) (i + 1))
     where
-      go : (x : Sought) → ((t : Step) → endingOf goal (lastOf (into node t) (chainFrom w file (into node t) (i + 1) left)) .points ≡ into node t .points + length (pointsAlong goal (into node t) (chainFrom w file (into node t) (i + 1) left)))
+      go : (x : Sought)
+          → ((t : Step) → let next = into node t in let rest = chainFrom w file next (i + 1) left in
+          endingOf goal (lastOf next rest) .points ≡ next .points + length (pointsAlong goal next rest))
           → endingOf goal (lastOf node (onto x (λ t. into node t ∷ chainFrom w file (into node t) (i + 1) left))) .points
           ≡ node .points + length (pointsAlong goal node (onto x (λ t. into node t ∷ chainFrom w file (into node t) (i + 1) left)))
       go (Found t) below = below t ∙ step-counts (f .vertices) goal node t (chainFrom w file (into node t) (i + 1) left)
@@ -143,12 +149,15 @@ end-bytes-of f trip file e = end-of-file (worldIn f trip) file e
 -- ---- the count in the bytes
 
 -- the second word of an end record
-end-word : (file : List ℕ) (at n : ℕ) (goal : Point) (len : Float) → at + 32 ≤ length file → n < 2 ^ 32 → take 32 (drop at file) ≡ endBytes n goal len → wordAt file (at + 4) ≡ n
+end-word : (file : List ℕ) (at n : ℕ) (goal : Point) (len : Float) → at + 32 ≤ length file → n < 2 ^ 32
+    → take 32 (drop at file) ≡ endBytes n goal len → wordAt file (at + 4) ≡ n
 unfolding wordAt endBytes endWords wordsBytes
 end-word file at n goal len h small e =
     let l = drop at file in
     let split : take 32 l ≡ take 4 l ++ take 28 (drop (at + 4) file) = take-add 4 28 l ∙ ap (λ (x : List ℕ). take 4 l ++ take 28 x) (drop-drop 4 at file) in
-    let first = same-parts 4 (take 4 l) (take 28 (drop (at + 4) file)) (bytesOf 4 5) (wordsBytes (n ∷ bits (goal .x) ∷ bits (goal .y) ∷ bits len ∷ 0 ∷ 0 ∷ 0 ∷ [])) (length-part 4 file at (omega arith)) (length-bytesOf 4 5) (sym split ∙ e) in
+    let words = wordsBytes (n ∷ bits (goal .x) ∷ bits (goal .y) ∷ bits len ∷ 0 ∷ 0 ∷ 0 ∷ []) in
+    let first =
+    same-parts 4 (take 4 l) (take 28 (drop (at + 4) file)) (bytesOf 4 5) words (length-part 4 file at (omega arith)) (length-bytesOf 4 5) (sym split ∙ e) in
     ap littleEndian (sym (take-take 4 28 (drop (at + 4) file) (omega arith)) ∙ ap (take 4) (first .1) ∙ take-at (bytesOf 4 n) _ 4 (length-bytesOf 4 n))
     ∙ littleEndian-bytesOf 4 n small
 
@@ -170,7 +179,8 @@ unfolding pointsAlong
 along-few goal node [] = last-few goal node
 along-few goal node (next ∷ nodes) = go (sameOf (next .root) (node .root)) (along-few goal next nodes)
   where
-    go : (b : Bool) → length (pointsAlong goal next nodes) ≤ length nodes + 2 → length (cond b (pointsAlong goal next nodes) (next .root ∷ pointsAlong goal next nodes)) ≤ suc (length nodes) + 2
+    go : (b : Bool) → length (pointsAlong goal next nodes) ≤ length nodes + 2
+        → length (cond b (pointsAlong goal next nodes) (next .root ∷ pointsAlong goal next nodes)) ≤ suc (length nodes) + 2
     go true h = omega arith
     go false h = omega arith
 
@@ -179,13 +189,16 @@ unfolding chainFrom
 chain-few w file zero node i = omega arith
 chain-few w file (suc left) node i = go (findStep (w .stepsFrom node) (recordAt file i)) (λ t. chain-few w file left (w .enter node t) (i + 1))
   where
-    go : (x : Sought) → ((t : Step) → length (chainFrom w file (w .enter node t) (i + 1) left) ≤ left) → length (onto x (λ t. w .enter node t ∷ chainFrom w file (w .enter node t) (i + 1) left)) ≤ suc left
+    go : (x : Sought) → ((t : Step) → length (chainFrom w file (w .enter node t) (i + 1) left) ≤ left)
+        → length (onto x (λ t. w .enter node t ∷ chainFrom w file (w .enter node t) (i + 1) left)) ≤ suc left
     go (Found t) below = omega (arith, below t)
     go Missing below = omega arith
 
 pub points-few : (w : World Node) (goal : Point) (file : List ℕ) → length (pointsOf w goal file) ≤ length file / 32 - 2 + 2
 unfolding pointsOf chainOf records
-points-few w goal file = omega (arith, along-few goal (w .seed) (chainFrom w file (w .seed) 1 (length file / 32 - 2)), chain-few w file (length file / 32 - 2) (w .seed) 1)
+points-few w goal file =
+    let left = length file / 32 - 2 in
+    omega (arith, along-few goal (w .seed) (chainFrom w file (w .seed) 1 left), chain-few w file left (w .seed) 1)
 
 -- the number of points, where the code reads it
 pub count-is-written : (f : Floor) (trip : Trip) (file : List ℕ) → judgeOf (worldIn f trip) file ≡ Accepted

@@ -1,5 +1,5 @@
--- A leg from a root is as long as one from a root that is equal by ==: of the f32s only the two zeros are equal and not the same, and a difference is squared. Rests on the
--- crate float's `eq-same`. Assumes nothing.
+-- A leg from a root is as long as one from a root that is equal by ==: of the f32s only the two zeros are equal and not the same, and a difference is
+-- squared. Rests on the crate float's `eq-same`. Assumes nothing.
 use Prim.Native.Nat.{ℕ, zero, suc, _+_, _-_, _*_, _/_, _%_, _^_, compare}
 use native.Mathlib.Omega.{arith}
 use mathlib.Core.Path.{_≡_, refl, sym, ap, _∙_}
@@ -46,7 +46,9 @@ square-units : (q k : ℕ) (s t : Bool) → square (units binary32 s q k) ≡ sq
 unfolding units
 square-units q k s t = go (ltb (q * 2 ^ k) (2 ^ (low binary32 + suc (emax binary32))))
   where
-    go : (b : Bool) → square (cond b (odd (suc (prec binary32)) s q k (low binary32)) (inf s)) ≡ square (cond b (odd (suc (prec binary32)) t q k (low binary32)) (inf t))
+    go : (b : Bool)
+        → square (cond b (odd (suc (prec binary32)) s q k (low binary32)) (inf s))
+        ≡ square (cond b (odd (suc (prec binary32)) t q k (low binary32)) (inf t))
     go true = square-odd (suc (prec binary32)) q k (low binary32) s t
     go false = square-inf s t
 
@@ -64,7 +66,9 @@ square-sum : (s t : Bool) (b c : ℕ) → square (sum binary32 s 0 t b c) ≡ sq
 unfolding sum
 square-sum s t b c = go (Bool·beq s t) (ltb 0 b) refl
   where
-    go : (x y : Bool) → ltb 0 b ≡ y → square (cond x (round binary32 s (0 + b) c) (cond y (round binary32 t (b - 0) c) (round binary32 (s && ltb b 0) (0 - b) c))) ≡ square (round binary32 true b c)
+    go : (x y : Bool) → ltb 0 b ≡ y
+        → square (cond x (round binary32 s (0 + b) c) (cond y (round binary32 t (b - 0) c) (round binary32 (s && ltb b 0) (0 - b) c)))
+        ≡ square (round binary32 true b c)
     go true y e =
         let n : 0 + b ≡ b = omega arith in
         ap (λ (m : ℕ). square (round binary32 s m c)) n ∙ square-round b c s true
@@ -83,7 +87,10 @@ from-zero s t (fin u n d) =
     let z : 0 * up (pos 0) * down d ≡ 0 = omega arith in
     let b = n * up d * down (pos 0) in
     let c = down (pos 0) * down d in
-    ap (λ (a : ℕ). square (sum binary32 s a (not u) b c)) z ∙ square-sum s (not u) b c ∙ sym (square-sum t (not u) b c) ∙ ap (λ (a : ℕ). square (sum binary32 t a (not u) b c)) (sym z)
+    ap (λ (a : ℕ). square (sum binary32 s a (not u) b c)) z
+    ∙ square-sum s (not u) b c
+    ∙ sym (square-sum t (not u) b c)
+    ∙ ap (λ (a : ℕ). square (sum binary32 t a (not u) b c)) (sym z)
 
 same-square : (x y p : Float) → T (fits binary32 x) → T (fits binary32 y) → eq x y ≡ true → square (sub binary32 x p) ≡ square (sub binary32 y p)
 same-square x y p h k e =
@@ -104,7 +111,8 @@ same-leg a b p h k e =
     rw (same-square (a .x) (b .x) (p .x) (h .x-held) (k .x-held) (t .0), same-square (a .y) (b .y) (p .y) (h .y-held) (k .y-held) (t .1))
 
 -- a sum from one root is the sum from the other
-pub same-sum : (total : Float) (a b : Point) (points : List Point) → HeldPoint a → HeldPoint b → sameOf a b ≡ true → lengthFrom total a points ≡ lengthFrom total b points
+pub same-sum : (total : Float) (a b : Point) (points : List Point) → HeldPoint a → HeldPoint b → sameOf a b ≡ true
+    → lengthFrom total a points ≡ lengthFrom total b points
 unfolding lengthFrom
 same-sum total a b [] h k e = refl
 same-sum total a b (p ∷ points) h k e = ap (λ (d : Float). lengthFrom (add binary32 total d) p points) (same-leg a b p h k e)

@@ -1,5 +1,5 @@
--- 01's sentence on points and length, and the end record: it carries the number of the points, and their f32 sum in order from 0.0. Rests on the count (proofs/Ended), on legs
--- from equal roots (proofs/Legs) and on the exact cases (judge, proofs/Exact). Assumes nothing.
+-- 01's sentence on points and length, and the end record: it carries the number of the points, and their f32 sum in order from 0.0. Rests on the
+-- count (proofs/Ended), on legs from equal roots (proofs/Legs) and on the exact cases (judge, proofs/Exact). Assumes nothing.
 use Prim.Native.Nat.{ℕ, zero, suc, _+_, _-_}
 use mathlib.Core.Path.{_≡_, refl, sym, ap, ap₂, _∙_}
 use mathlib.Core.Bool.{Bool, true, false, cond}
@@ -63,7 +63,9 @@ module _ (goal : Point) (node : Node) where
       round (Around p) = refl
       round Straight = refl
 
-      go : (b : Bool) (t : Turn) → cond b (lastLeg goal node Straight) (lastLeg goal node t) .length ≡ lengthFrom (node .length) (node .root) (cond b (goal ∷ []) (goingRound t goal))
+      go : (b : Bool) (t : Turn)
+          → cond b (lastLeg goal node Straight) (lastLeg goal node t) .length
+          ≡ lengthFrom (node .length) (node .root) (cond b (goal ∷ []) (goingRound t goal))
       go true t = refl
       go false t = round t
 
@@ -79,14 +81,21 @@ module _ (vertices : List Point) (goal : Point) (node : Node) (t : Step) (rest :
   unfolding enter
   length-more e = rw e
 
-  first-leg : (p : Point) (points : List Point) → lengthFrom (add binary32 (node .length) (distanceOf (node .root) p)) p points ≡ lengthFrom (node .length) (node .root) (p ∷ points)
+  first-leg : (p : Point) (points : List Point)
+      → lengthFrom (add binary32 (node .length) (distanceOf (node .root) p)) p points ≡ lengthFrom (node .length) (node .root) (p ∷ points)
   unfolding lengthFrom
   first-leg p points = refl
 
-  step-sums : HeldPoint (node .root) → lengthFrom (next .length) (next .root) (pointsAlong goal next rest) ≡ lengthFrom (node .length) (node .root) (pointsAlong goal node (next ∷ rest))
+  -- the sum is the same, counted from the node or from the next
+  abbrev SameSum : Type 0
+  SameSum =
+      lengthFrom (next .length) (next .root) (pointsAlong goal next rest)
+      ≡ lengthFrom (node .length) (node .root) (pointsAlong goal node (next ∷ rest))
+
+  step-sums : HeldPoint (node .root) → SameSum
   step-sums h = go (sameOf (next .root) (node .root)) refl
     where
-      go : (b : Bool) → sameOf (next .root) (node .root) ≡ b → lengthFrom (next .length) (next .root) (pointsAlong goal next rest) ≡ lengthFrom (node .length) (node .root) (pointsAlong goal node (next ∷ rest))
+      go : (b : Bool) → sameOf (next .root) (node .root) ≡ b → SameSum
       go true e =
           same-sum (next .length) (next .root) (node .root) (pointsAlong goal next rest) (root-held vertices node t h) h e
           ∙ ap₂ (λ (d : Float) (l : List Point). lengthFrom d (node .root) l) (length-kept e) (sym (along-kept vertices goal node t rest e))
@@ -109,13 +118,16 @@ module _ (f : Floor) (trip : Trip) (file : List ℕ) where
   into = enter (f .vertices)
 
   chain-sum : (left : ℕ) (node : Node) (i : ℕ) → HeldPoint (node .root)
-      → endingOf goal (lastOf node (chainFrom w file node i left)) .length ≡ lengthFrom (node .length) (node .root) (pointsAlong goal node (chainFrom w file node i left))
+      → let rest = chainFrom w file node i left in
+      endingOf goal (lastOf node rest) .length ≡ lengthFrom (node .length) (node .root) (pointsAlong goal node rest)
   unfolding chainFrom lastOf worldIn
   chain-sum zero node i h = last-sum goal node ∙ ap (lengthFrom (node .length) (node .root)) (sym (along-end goal node))
-  chain-sum (suc left) node i h = go (findStep (stepsFrom f (trip .to) node) (recordAt file i)) (λ t. chain-sum left (into node t) (i + 1) (root-held (f .vertices) node t h))
+  chain-sum (suc left) node i h =
+      go (findStep (stepsFrom f (trip .to) node) (recordAt file i)) (λ t. chain-sum left (into node t) (i + 1) (root-held (f .vertices) node t h))
     where
       go : (x : Sought)
-          → ((t : Step) → endingOf goal (lastOf (into node t) (chainFrom w file (into node t) (i + 1) left)) .length ≡ lengthFrom (into node t .length) (into node t .root) (pointsAlong goal (into node t) (chainFrom w file (into node t) (i + 1) left)))
+          → ((t : Step) → let next = into node t in let rest = chainFrom w file next (i + 1) left in
+          endingOf goal (lastOf next rest) .length ≡ lengthFrom (next .length) (next .root) (pointsAlong goal next rest))
           → endingOf goal (lastOf node (onto x (λ t. into node t ∷ chainFrom w file (into node t) (i + 1) left))) .length
           ≡ lengthFrom (node .length) (node .root) (pointsAlong goal node (onto x (λ t. into node t ∷ chainFrom w file (into node t) (i + 1) left)))
       go (Found t) below = below t ∙ step-sums (f .vertices) goal node t (chainFrom w file (into node t) (i + 1) left) h

@@ -1,5 +1,6 @@
--- An accepted file can be read off, and what is read off it are the route's points; and what the listing loop keeps: the points that are left, put behind those that
--- stand, are all the points. Rests on what the judge's loop keeps (judge, proofs/Following) and on the chain record by record (proofs/Chained). Assumes nothing.
+-- An accepted file can be read off, and what is read off it are the route's points; and what the listing loop keeps: the points that are left, put
+-- behind those that stand, are all the points. Rests on what the judge's loop keeps (judge, proofs/Following) and on the chain record by record
+-- (proofs/Chained). Assumes nothing.
 use Prim.Native.Nat.{ℕ, zero, suc, _+_, _-_, _*_, _/_, _≤_, _<_}
 use native.Mathlib.Nat.{zero-add}
 use native.Mathlib.Omega.{arith}
@@ -58,7 +59,8 @@ module _ {plan vs ps : List ℕ} (g : Ground plan vs ps) (trip : Trip) (file : L
       is-read file file-bytes i (omega (arith, h .inside, l)) (slotsIn plan) vs ps floor-bytes (trip .to) node
       (λ e. accepted-stops-not w file i accepted (follows-stops g trip file h l e))
 
-  on : {node : Node} {i : ℕ} → Follows plan vs ps trip file last node i → i < last → Follows plan vs ps trip file last (enter vertices node (stepIn file i)) (i + 1)
+  on : {node : Node} {i : ℕ} → Follows plan vs ps trip file last node i → i < last
+      → Follows plan vs ps trip file last (enter vertices node (stepIn file i)) (i + 1)
   on h l = follows-on g trip file h (stepIn file _) l (found h l) refl
 
   below : (v : ℕ) → v < length vs / 8 → ltb v (length vertices) ≡ true
@@ -127,6 +129,7 @@ module _ (vertices : List Point) (trip : Trip) (file : List ℕ) where
       let g = length-gives file (h .whole) in
       let n : last - 1 ≡ length file / 32 - 2 = omega arith in
       let none = seed-points (trip .start) (trip .from) in
+      let from-seed : ℕ → List Point = λ left. pointsAlong (trip .goal) (seedOf trip) (readFrom vertices file (seedOf trip) 1 left) in
       subst (λ (x : Node). Places vertices trip file last out out x 1) (sym b)
       (record {
         begun = omega arith;
@@ -136,8 +139,8 @@ module _ (vertices : List Point) (trip : Trip) (file : List ℕ) where
         points = omega (arith, none);
         leading = ap (leads vertices file (seedOf trip) 1) n ∙ h .leading;
         long = refl;
-        placed = ap₂ (λ (k left : ℕ). sets out (k * 2) (floatsOf (pointsAlong (trip .goal) (seedOf trip) (readFrom vertices file (seedOf trip) 1 left)))) none n;
-        count = ap₂ (λ (k left : ℕ). k + length (pointsAlong (trip .goal) (seedOf trip) (readFrom vertices file (seedOf trip) 1 left))) none n ∙ zero-add _;
+        placed = ap₂ (λ (k left : ℕ). sets out (k * 2) (floatsOf (from-seed left))) none n;
+        count = ap₂ (λ (k left : ℕ). k + length (from-seed left)) none n ∙ zero-add _;
       })
 
   module _ (last : ℕ) (out₀ out : List Float) (node : Node) (i : ℕ) (h : Places vertices trip file last out₀ out node i) where

@@ -18,7 +18,8 @@ use Rattle.readout.specs.Readout.{floatsOf, putPoint}
 
 -- ---- a point
 
-pub put-more : (out : List Float) (k : ℕ) (p : Point) (ps : List Point) → sets (putPoint out k p) ((k + 1) * 2) (floatsOf ps) ≡ sets out (k * 2) (floatsOf (p ∷ ps))
+pub put-more : (out : List Float) (k : ℕ) (p : Point) (ps : List Point)
+    → sets (putPoint out k p) ((k + 1) * 2) (floatsOf ps) ≡ sets out (k * 2) (floatsOf (p ∷ ps))
 unfolding putPoint floatsOf
 put-more out k p ps =
     let e : (k + 1) * 2 ≡ suc (suc (k * 2)) = omega arith in
@@ -47,23 +48,27 @@ module _ (goal : Point) (node : Node) where
   unfolding lastPoints
   last-of-seed e = rw e
 
-  pub last-around : (turn : Turn) (p : Point) → node .seed ≡ false → turn ≡ turningPointOf (node .root) goal (node .interval) → turn ≡ Around p → lastPoints goal node ≡ p ∷ goal ∷ []
+  pub last-around : (turn : Turn) (p : Point) → node .seed ≡ false → turn ≡ turningPointOf (node .root) goal (node .interval)
+      → turn ≡ Around p → lastPoints goal node ≡ p ∷ goal ∷ []
   unfolding lastPoints
   last-around turn p e t h = rw (e, sym t ∙ h)
 
-  pub last-straight : (turn : Turn) → node .seed ≡ false → turn ≡ turningPointOf (node .root) goal (node .interval) → turn ≡ Straight → lastPoints goal node ≡ goal ∷ []
+  pub last-straight : (turn : Turn) → node .seed ≡ false → turn ≡ turningPointOf (node .root) goal (node .interval)
+      → turn ≡ Straight → lastPoints goal node ≡ goal ∷ []
   unfolding lastPoints
   last-straight turn e t h = rw (e, sym t ∙ h)
 
   -- the places that they take
   module _ (out : List Float) where
-    pub room-for-one : (p : Point) → lastPoints goal node ≡ p ∷ [] → (node .points + length (lastPoints goal node)) * 2 ≤ length out → node .points * 2 + 2 ≤ length out
+    pub room-for-one : (p : Point) → lastPoints goal node ≡ p ∷ [] → (node .points + length (lastPoints goal node)) * 2 ≤ length out
+        → node .points * 2 + 2 ≤ length out
     room-for-one p e h =
         let n : length (lastPoints goal node) ≡ 1 = ap length e in
         let r : (node .points + 1) * 2 ≤ length out = subst (λ (x : ℕ). (node .points + x) * 2 ≤ length out) n h in
         omega (arith, r)
 
-    pub room-for-two : (p q : Point) → lastPoints goal node ≡ p ∷ q ∷ [] → (node .points + length (lastPoints goal node)) * 2 ≤ length out → node .points * 2 + 4 ≤ length out
+    pub room-for-two : (p q : Point) → lastPoints goal node ≡ p ∷ q ∷ [] → (node .points + length (lastPoints goal node)) * 2 ≤ length out
+        → node .points * 2 + 4 ≤ length out
     room-for-two p q e h =
         let n : length (lastPoints goal node) ≡ 2 = ap length e in
         let r : (node .points + 2) * 2 ≤ length out = subst (λ (x : ℕ). (node .points + x) * 2 ≤ length out) n h in
@@ -74,5 +79,6 @@ module _ (goal : Point) (node : Node) where
 pub long-after : (out next : List Float) (k : ℕ) (p : Point) → next ≡ putPoint out k p → length next ≡ length out
 long-after out next k p e = ap length e ∙ put-long out k p
 
-pub two-after : (out next last : List Float) (k : ℕ) (p q : Point) → next ≡ putPoint out k p → last ≡ putPoint next (k + 1) q → last ≡ sets out (k * 2) (floatsOf (p ∷ q ∷ []))
+pub two-after : (out next last : List Float) (k : ℕ) (p q : Point) → next ≡ putPoint out k p
+    → last ≡ putPoint next (k + 1) q → last ≡ sets out (k * 2) (floatsOf (p ∷ q ∷ []))
 two-after out next last k p q e d = d ∙ ap (λ (o : List Float). putPoint o (k + 1) q) e ∙ put-two out k p q

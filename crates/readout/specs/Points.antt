@@ -1,5 +1,5 @@
--- Document 01, "Points: the new root at each place of the parent chain, oldest first, where the root changed by !=; then turning_point if any; then the goal. With no step in
--- the chain the goal is the only point. Length is the f32 sum in that order from 0.0." Definitions only. Assumes nothing.
+-- Document 01, "Points: the new root at each place of the parent chain, oldest first, where the root changed by !=; then turning_point if any; then
+-- the goal. With no step in the chain the goal is the only point. Length is the f32 sum in that order from 0.0." Definitions only. Assumes nothing.
 use Prim.Native.Nat.{ℕ, zero, suc, _+_, _-_, _/_}
 use mathlib.Core.Path.{_≡_}
 use mathlib.Core.Bool.{cond}

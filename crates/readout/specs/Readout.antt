@@ -1,5 +1,5 @@
--- Document 01: "A read-out judges, then lists the points into a lent f32 slice, 13 if it is too short"; "the read-out returns on 0 the number of points"; "Other than 0,
--- nothing in the output changes." Definitions only. Assumes nothing.
+-- Document 01: "A read-out judges, then lists the points into a lent f32 slice, 13 if it is too short"; "the read-out returns on 0 the number of
+-- points"; "Other than 0, nothing in the output changes." Definitions only. Assumes nothing.
 use Prim.Native.Nat.{ℕ, _+_, _*_}
 use mathlib.Core.Bool.{cond}
 use mathlib.Core.List.{List, [], _∷_}

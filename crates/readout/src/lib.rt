@@ -14,7 +14,8 @@ ghost use Rattle.steps.specs.World.{worldIn};
 ghost use Rattle.judge.specs.declared.Verdict.the-variants.{Read};
 ghost use Rattle.readout.specs.Points.{lastPoints, pointsOf};
 ghost use Rattle.readout.specs.ReadOff.{pointsRead, Readable};
-ghost use Rattle.readout.specs.Readout.{floatsOf, putPoint, putRoot, listed, listing, answerIf, outIf, readoutOn, writtenOn, readoutOf, writtenOf, readoutTold};
+ghost use Rattle.readout.specs.Readout.{floatsOf, putPoint, putRoot, listed, listing, answerIf, outIf};
+ghost use Rattle.readout.specs.Readout.{readoutOn, writtenOn, readoutOf, writtenOf, readoutTold};
 use floor::FloorLook;
 use floor::Look;
 use helpers::Turn;
@@ -187,7 +188,9 @@ pub fn read_out(
     points: &mut [f32],
 ) -> Readout
     ensures { λ r. ⌜ r ≡ readoutOf 8 (now (vertices .entry)) (now (polygons .entry)) (now (question .entry)) (now (route .entry)) (now (points .entry)) ⌝ }
-    ensures { λ _. ⌜ now (points .exit) ≡ writtenOf 8 (now (vertices .entry)) (now (polygons .entry)) (now (question .entry)) (now (route .entry)) (now (points .entry)) ⌝ }
+    ensures { λ _.
+        let before = now (points .entry) in
+        ⌜ now (points .exit) ≡ writtenOf 8 (now (vertices .entry)) (now (polygons .entry)) (now (question .entry)) (now (route .entry)) before ⌝ }
 {
     let mut plan = [0u32; PLAN];
     match floor::look_at_floor(vertices, polygons, &mut plan) {

@@ -20,28 +20,38 @@ abbrev μ-loop : tie.MeasureT-loop
 
 -- ---- places
 
-abbrev begun : tie.After-seed Inv-loop μ-loop → tie.Start Inv-loop μ-loop
-begun c = c .before .before .before .before
+abbrev begun : tie.After-slice-known Inv-loop μ-loop → tie.Start Inv-loop μ-loop
+begun c = c .before .before .before
 
 abbrev start : tie.At-loop Inv-loop μ-loop → tie.Start Inv-loop μ-loop
-start l = begun (l .before)
+start l = begun (l .before .before)
 
 -- the turn in which a step was entered, and a root put
 abbrev turning : tie.After-enter Inv-loop μ-loop → tie.In-loop Inv-loop μ-loop
 turning c = c .before .before
 
-abbrev entered : tie.After-slice-known2 Inv-loop μ-loop → tie.After-enter Inv-loop μ-loop
-entered c = c .before .before .before .before
+abbrev entered : tie.After-put-root Inv-loop μ-loop → tie.After-enter Inv-loop μ-loop
+entered c = c .before .before
+
+abbrev rooted : tie.After-slice-known2 Inv-loop μ-loop → tie.After-put-root Inv-loop μ-loop
+rooted c = c .before .before
+
+-- the loop's end, and the last points
+abbrev ended : tie.After-put-last Inv-loop μ-loop → tie.After-loop Inv-loop μ-loop
+ended c = c .before .before
+
+abbrev listed : tie.After-slice-known3 Inv-loop μ-loop → tie.After-put-last Inv-loop μ-loop
+listed c = c .before .before
 
 -- the node that was entered
-next-is : (c : tie.After-enter Inv-loop μ-loop) → let l = turning c .before in
-    c .enter .result ≡ enter (verticesOf (now (start l .args .vertices))) (l .loop .node) (stepIn (now (start l .args .route)) (l .loop .i))
-next-is c = let l = turning c .before in c .enter .ensures ∙ ap (enter (verticesOf (now (start l .args .vertices))) (l .loop .node)) (c .before .step-in .ensures)
+next-is : (c : tie.After-enter Inv-loop μ-loop) → let l = turning c .before in let s = start l in
+    c .enter .result ≡ enter (verticesOf (now (s .args .vertices))) (l .loop .node) (stepIn (now (s .args .route)) (l .loop .i))
+next-is c = c .enter .ensures ∙ ap (enter _ _) (c .before .step-in .ensures)
 
 -- ---- before the loop
 
 loop-holds : tie.Need-loop-holds Inv-loop μ-loop
-loop-holds c = let s = begun c in places-begin _ (s .args .trip) _ (s .pre .0) _ refl _ (c .seed .ensures)
+loop-holds c = let s = begun (c .before) in places-begin _ (s .args .trip) _ (s .pre .0) _ refl _ (c .seed .ensures)
 
 -- ---- a record
 
@@ -60,36 +70,37 @@ enter-requires c κs =
 
 put-root-requires : tie.Need-put-root-requires Inv-loop μ-loop
 put-root-requires c κs =
-    let turn = turning (c .before) in
+    let by = c .before in
+    let turn = turning by in
     let l = turn .before in
-    place-for-root _ _ _ _ _ _ (l .loop .node) (l .loop .i) (l .loop .inv) (turn .loop-test .taken) (start l .pre .1) (next-is (c .before))
+    place-for-root _ _ _ _ _ _ (l .loop .node) (l .loop .i) (l .loop .inv) (turn .loop-test .taken) (start l .pre .1) (next-is by)
 
 loop-again : tie.Need-loop-again Inv-loop μ-loop
 loop-again c =
-    let turn = turning (entered c) in
+    let by = entered (rooted c) in
+    let turn = turning by in
     let l = turn .before in
-    places-on _ _ _ _ _ _ (l .loop .node) (l .loop .i) (l .loop .inv) (turn .loop-test .taken) (next-is (entered c)) (c .before .before .put-root .ensures)
+    places-on _ _ _ _ _ _ (l .loop .node) (l .loop .i) (l .loop .inv) (turn .loop-test .taken) (next-is by) (rooted c .put-root .ensures)
 
 -- ---- behind the last step
 
 put-last-requires : tie.Need-put-last-requires Inv-loop μ-loop
 put-last-requires c κs =
-    let l = c .before .before in
-    place-for-last _ _ _ _ _ _ (l .loop .node) (l .loop .i) (l .loop .inv) (c .before .loop-test .left) (start l .pre .1)
-
-abbrev ended : tie.After-put-last Inv-loop μ-loop → tie.After-loop Inv-loop μ-loop
-ended c = c .before .before
+    let end = c .before in
+    let l = end .before in
+    place-for-last _ _ _ _ _ _ (l .loop .node) (l .loop .i) (l .loop .inv) (end .loop-test .left) (start l .pre .1)
 
 returns : tie.Need-returns Inv-loop μ-loop
 returns c =
-    let put = c .before .before in
-    let l = ended put .before in
-    places-end _ _ _ _ _ _ (l .loop .node) (l .loop .i) (l .loop .inv) (ended put .loop-test .left) (put .put-last .ensures)
+    let end = ended (listed c) in
+    let l = end .before in
+    places-end _ _ _ _ _ _ (l .loop .node) (l .loop .i) (l .loop .inv) (end .loop-test .left) (listed c .put-last .ensures)
 
 pub list-points-spec : {M : Type 1} → statement M
 list-points-spec =
     tie.close
-    (tie.spec Inv-loop μ-loop (λ c. omega (arith, length-gives _ (c .before .before .before .pre .0 .whole))) (λ c κs. tt) loop-holds
+    (tie.spec Inv-loop μ-loop (λ c. omega (arith, length-gives _ (begun c .pre .0 .whole))) (λ c κs. tt) loop-holds
     (λ c κs. omega (arith, c .before .loop .inv .inside, c .loop-test .taken)) enter-requires put-root-requires
-    (λ c. let h = turning (entered c) .before .loop .inv in omega (arith, h .upto, h .few)) (λ c. omega (arith, turning (entered c) .loop-test .taken)) loop-again
-    put-last-requires (λ c. c .before .before .put-last .kept .0 ∙ ended (c .before .before) .before .loop .inv .long) returns)
+    (λ c. let h = turning (entered (rooted c)) .before .loop .inv in omega (arith, h .upto, h .few))
+    (λ c. omega (arith, turning (entered (rooted c)) .loop-test .taken)) loop-again put-last-requires
+    (λ c. listed c .put-last .kept .0 ∙ ended (listed c) .before .loop .inv .long) returns)

@@ -14,36 +14,43 @@ use Rattle.readout.proofs.list_route.Tie as tie
 
 -- ---- places
 
-abbrev start : tie.After-points-at → tie.Start
-start c = c .before .before .before .before
+abbrev start : tie.After-slice-known → tie.Start
+start c = c .before .before .before
 
-abbrev counted : tie.After-list-points → tie.After-points-at
-counted c = c .before .before .before
+abbrev begun : tie.After-points-at → tie.Start
+begun c = start (c .before)
 
-count : (c : tie.After-points-at) → let s = start c in
+-- there is room
+abbrev roomy : tie.After-list-points → tie.Else1
+roomy c = c .before .before
+
+count : (c : tie.After-points-at) → let s = begun c in
     c .points-at .result ≡ length (pointsRead (verticesOf (now (s .args .vertices))) (s .args .trip) (now (s .args .route)))
 unfolding records
-count c = c .points-at .ensures ∙ start c .pre .counted
+count c = c .points-at .ensures ∙ begun c .pre .counted
 
 -- ---- needs
 
 points-at-requires : tie.Need-points-at-requires
-points-at-requires c κs = omega (arith, length-gives _ (c .before .before .before .pre .whole))
+points-at-requires c κs = omega (arith, length-gives _ (start c .pre .whole))
 
 list-points-requires : tie.Need-list-points-requires
-list-points-requires c κs = let read = c .before .before in (start read .pre, omega (arith, count read, c .before .if1 .left))
+list-points-requires c κs =
+    let room = c .before in
+    let read = room .before in
+    (begun read .pre, omega (arith, count read, room .if1 .left))
 
 returns : tie.Need-returns
-returns c = let read = c .before in short-is _ (now (start read .args .points)) _ (count read) (c .if1 .taken)
+returns c = let read = c .before in short-is _ (now (begun read .args .points)) _ (count read) (c .if1 .taken)
 
 returns-2 : tie.Need-returns-2
 returns-2 c =
     let put = c .before .before in
-    let read = counted put in
-    listed-is _ (now (start read .args .points)) _ (count read) _ (put .before .before .if1 .left) (put .list-points .ensures)
+    let read = roomy put .before in
+    listed-is _ (now (begun read .args .points)) _ (count read) _ (roomy put .if1 .left) (put .list-points .ensures)
 
 pub list-route-spec : {M : Type 1} → statement M
 list-route-spec =
     tie.close
-    (tie.spec (λ c. omega (arith, length-gives _ (c .before .before .before .pre .whole))) points-at-requires (λ c. search needs) (λ c. search needs) returns
+    (tie.spec (λ c. omega (arith, length-gives _ (start c .pre .whole))) points-at-requires (λ c. search needs) (λ c. search needs) returns
     list-points-requires (λ c. search needs) returns-2)

@@ -15,8 +15,14 @@ use Rattle.readout.proofs.read_route.Tie as tie
 
 -- ---- places
 
+abbrev lent : tie.After-judge-route → tie.After-shared-slice-known3
+lent c = c .before .before
+
+abbrev floor-lent : tie.After-judge-route → tie.After-shared-slice-known2
+floor-lent c = lent c .before
+
 abbrev start : tie.After-judge-route → tie.Start
-start c = c .before .before .before .before .before
+start c = floor-lent c .before .before
 
 -- behind the judge, who accepts
 abbrev judged : tie.After-enum-told → tie.After-judge-route
@@ -27,10 +33,10 @@ accepted : (c : tie.After-enum-told) → let s = start (judged c) in
 accepted c = sym (judged c .judge-route .ensures) ∙ c .enum-told .given .1
 
 floor-bytes : (c : tie.After-judge-route) → Bytes (now (start c .args .polygons))
-floor-bytes c = λ n. c .before .before .before .shared-slice-known2 .given n .fits
+floor-bytes c = λ n. floor-lent c .shared-slice-known2 .given n .fits
 
 route-bytes : (c : tie.After-judge-route) → Bytes (now (start c .args .route))
-route-bytes c = λ n. c .before .before .shared-slice-known3 .given n .fits
+route-bytes c = λ n. lent c .shared-slice-known3 .given n .fits
 
 -- ---- accepted
 
@@ -59,10 +65,10 @@ returns-3 : tie.Need-returns-3
 returns-3 c = read-seed _ _ _ (sym (c .before .before .judge-route .ensures) ∙ c .enum-told3 .given .1)
 
 returns-4 : tie.Need-returns-4
-returns-4 c = read-step _ _ _ _ (sym (c .before .before .before .judge-route .ensures) ∙ c .before .i .given .1)
+returns-4 c = let told = c .before in read-step _ _ _ _ (sym (told .before .before .judge-route .ensures) ∙ told .i .given .1)
 
 returns-5 : tie.Need-returns-5
-returns-5 c = read-end _ _ _ _ (sym (c .before .before .before .judge-route .ensures) ∙ c .before .i2 .given .1)
+returns-5 c = let told = c .before in read-end _ _ _ _ (sym (told .before .before .judge-route .ensures) ∙ told .i2 .given .1)
 
 pub read-route-spec : {M : Type 1} → statement M
 read-route-spec =
