@@ -1,6 +1,7 @@
--- Demand 3's "exactly", for the judge as it stands: `verdict-exactly` for every verdict, both ways; and by document 01's numbers, of an accepted floor with start and goal
--- inside: 0 exactly for the true routes, each of 20 to 23 exactly in its case with its record, and a file cut short is refused. Rests on the laws of any lawful world
--- (route, proofs/Verdicts and Cut), on this world's being lawful (steps, proofs/World) and on the exact cases of a look (floor, proofs/Exact). Assumes nothing.
+-- Demand 3's "exactly", for the judge as it stands: `verdict-exactly` for every verdict, both ways; and by document 01's numbers, of an accepted
+-- floor with start and goal inside: 0 exactly for the true routes, each of 20 to 23 exactly in its case with its record, and a file cut short is
+-- refused. Rests on the laws of any lawful world (route, proofs/Verdicts and Cut), on this world's being lawful (steps, proofs/World) and on the
+-- exact cases of a look (floor, proofs/Exact). Assumes nothing.
 use Prim.Native.Nat.{ℕ, _<_}
 use mathlib.Core.Path.{_≡_, refl, sym, ap, _∙_, subst}
 use mathlib.Core.List.{List}
@@ -44,8 +45,12 @@ module _ (s : ℕ) (vs ps question : List ℕ) where
   -- start and goal inside, as a look finds them
   looks-inside : Inside s vs ps question → lookOf s vs ps question ≡ LookInside from to
   looks-inside h =
-      each-exactly s vs ps question (LookInside from to) .1
-      (h .sound, h .asked, polygon-is-least f (questionOf question .start) (in-some f (questionOf question .start) .1 (h .start-inside)), polygon-is-least f (questionOf question .goal) (in-some f (questionOf question .goal) .1 (h .goal-inside)))
+      each-exactly s vs ps question (LookInside from to) .1 (
+        h .sound,
+        h .asked,
+        polygon-is-least f (questionOf question .start) (in-some f (questionOf question .start) .1 (h .start-inside)),
+        polygon-is-least f (questionOf question .goal) (in-some f (questionOf question .goal) .1 (h .goal-inside)),
+      )
 
   inside-looks : (a b : ℕ) → lookOf s vs ps question ≡ LookInside a b → Inside s vs ps question × (from ≡ a) × (to ≡ b)
   inside-looks a b e =
@@ -73,7 +78,8 @@ module _ (s : ℕ) (vs ps question : List ℕ) where
       unfolding verdictOf worldOf
       given = go (lookOf s vs ps question) refl
         where
-          go : (l : Look) → lookOf s vs ps question ≡ l → Case s vs ps question route (judgeIf l (λ a b. judgeOf (worldIn f (tripOf (questionOf question) a b)) route))
+          go : (l : Look) → lookOf s vs ps question ≡ l
+              → Case s vs ps question route (judgeIf l (λ a b. judgeOf (worldIn f (tripOf (questionOf question) a b)) route))
           go (LookRefused r) e = each-exactly s vs ps question (LookRefused r) .0 e
           go (LookInside a b) e =
               let h = inside-looks a b e in

@@ -1,5 +1,5 @@
--- Record by record: what the judge's loop keeps, that it holds at the seed, and that a found step carries it on. Rests on the judge turn by turn (route, proofs/Turns)
--- and on it that steps lead to nodes that stand on the floor (steps, proofs/Stands). Assumes nothing.
+-- Record by record: what the judge's loop keeps, that it holds at the seed, and that a found step carries it on. Rests on the judge turn by turn
+-- (route, proofs/Turns) and on it that steps lead to nodes that stand on the floor (steps, proofs/Stands). Assumes nothing.
 use Prim.Native.Nat.{ℕ, _+_, _-_, _*_, _/_, _≤_, _<_}
 use native.Mathlib.Omega.{arith}
 use mathlib.Core.Path.{_≡_, refl, sym, ap, _∙_, subst}

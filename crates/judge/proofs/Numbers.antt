@@ -1,6 +1,6 @@
--- The theorems of the judge by document 01's numbers, for an accepted floor and a right question with start and goal inside: 0 exactly for the true routes (demand 3), each
--- of 20 to 23 exactly in its case, with its record; and an accepted file cut short anywhere, at any byte, is 20 or 23. specs/Exactly has them
--- as sentences. Rests on proofs/Exact. Assumes nothing.
+-- The theorems of the judge by document 01's numbers, for an accepted floor and a right question with start and goal inside: 0 exactly for the true
+-- routes (demand 3), each of 20 to 23 exactly in its case, with its record; and an accepted file cut short anywhere, at any byte, is 20 or 23.
+-- specs/Exactly has them as sentences. Rests on proofs/Exact. Assumes nothing.
 use Prim.Native.Nat.{ℕ}
 use native.Mathlib.Omega.{arith}
 use mathlib.Core.Path.{_≡_, refl, sym, ap, _∙_}
@@ -93,7 +93,8 @@ module _ (s : ℕ) (vs ps question : List ℕ) (bytes : Bytes ps) (inside : Insi
   case-is route j = judged-exactly (world-is-lawful s vs ps question bytes) route j
 
   -- what a verdict on the file is by its number and record
-  says : (route : List ℕ) (j : Judged) → Case w route j → (verdictNumber (verdict route) ≡ numberOf (judgedTold j)) × (verdictRecord (verdict route) ≡ valuesOf (judgedTold j))
+  says : (route : List ℕ) (j : Judged) → Case w route j
+      → (verdictNumber (verdict route) ≡ numberOf (judgedTold j)) × (verdictRecord (verdict route) ≡ valuesOf (judgedTold j))
   says route j h = let e = told-is route ∙ ap judgedTold (case-is route j .1 h) in (ap numberOf e, ap valuesOf e)
 
   module _ (route : List ℕ) where
@@ -111,11 +112,17 @@ module _ (s : ℕ) (vs ps question : List ℕ) (bytes : Bytes ps) (inside : Insi
 
     pub step-exactly : StepExactly s vs ps question route
     unfolding judgedTold numberOf valuesOf
-    step-exactly k = ((λ e. case-is route (NotStep k) .0 (twenty-two-is-step (judgeOf w route) k (sym (number-is route) ∙ e .0) (sym (record-is route) ∙ e .1))), says route (NotStep k))
+    step-exactly k = (
+      (λ e. case-is route (NotStep k) .0 (twenty-two-is-step (judgeOf w route) k (sym (number-is route) ∙ e .0) (sym (record-is route) ∙ e .1))),
+      says route (NotStep k),
+    )
 
     pub end-exactly : EndExactly s vs ps question route
     unfolding judgedTold numberOf valuesOf
-    end-exactly k = ((λ e. case-is route (NotEnd k) .0 (twenty-three-is-end (judgeOf w route) k (sym (number-is route) ∙ e .0) (sym (record-is route) ∙ e .1))), says route (NotEnd k))
+    end-exactly k = (
+      (λ e. case-is route (NotEnd k) .0 (twenty-three-is-end (judgeOf w route) k (sym (number-is route) ∙ e .0) (sym (record-is route) ∙ e .1))),
+      says route (NotEnd k),
+    )
 
     pub cut-is-refused : CutIsRefused s vs ps question route
     unfolding judgedTold numberOf valuesOf

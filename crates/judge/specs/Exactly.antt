@@ -27,7 +27,8 @@ pub record Inside (slots : ℕ) (vertices polygons question : List ℕ) : Type 0
 -- 2 to 9 in the cases of the floor and the question; 0 and 20 to 23 where these are right, in the cases of the route file
 abbrev pub Case : ℕ → List ℕ → List ℕ → List ℕ → List ℕ → Verdict → Type 0
 Case slots vertices polygons question route (Refused refusal) = LookCase slots vertices polygons question (LookRefused refusal)
-Case slots vertices polygons question route (Read judged) = Inside slots vertices polygons question × RouteCase (worldOf (floorOf slots vertices polygons) (questionOf question)) route judged
+Case slots vertices polygons question route (Read judged) =
+    Inside slots vertices polygons question × RouteCase (worldOf (floorOf slots vertices polygons) (questionOf question)) route judged
 
 -- ---- the same by document 01's numbers, wherever start and goal are `Inside`: proofs/Numbers
 

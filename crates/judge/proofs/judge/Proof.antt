@@ -39,7 +39,7 @@ returns c =
 -- ---- at fault
 
 returns-2 : tie.Need-returns-2
-returns-2 c = judges-faulty 8 _ _ _ _ (c .before .before .before .look-at-floor .ensures .0) (c .before .refusal .given .1)
+returns-2 c = let faulty = c .before in judges-faulty 8 _ _ _ _ (faulty .before .before .look-at-floor .ensures .0) (faulty .refusal .given .1)
 
 pub judge-spec : {M : Type 1} → statement M
 judge-spec =
