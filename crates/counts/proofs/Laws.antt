@@ -140,6 +140,14 @@ first-before n f = first-tells n f .0
 pub first-at : (n : ℕ) (f : ℕ → Bool) → first n f < n → f (first n f) ≡ true
 first-at n f = first-tells n f .1
 
+-- where none is among them up to m, the first is behind m
+pub first-behind : (n : ℕ) (f : ℕ → Bool) (m : ℕ) → m < n → ((k : ℕ) → k < m + 1 → f k ≡ false) → m < first n f
+first-behind n f m l none = go (decLt m (first n f))
+  where
+    go : Dec (m < first n f) → m < first n f
+    go (yes b) = b
+    go (no b) = let z : _≡_ {A = Bool} true false = sym (first-at n f (omega arith)) ∙ none (first n f) (omega arith) in absurd (subst T z tt)
+
 pub first-same : (n : ℕ) (f g : ℕ → Bool) → ((k : ℕ) → k < n → f k ≡ g k) → first n f ≡ first n g
 unfolding first
 first-same zero f g h = refl

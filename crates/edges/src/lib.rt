@@ -13,6 +13,7 @@ use plan::PLAN;
 use point::EdgeSide;
 use point::Point;
 use point::Segment;
+use stored::UNUSED;
 
 pub mod turns;
 
@@ -46,7 +47,8 @@ fn is_right(
     point::same_side(point.side(line), EdgeSide::Right)
 }
 
-// A polygon contains a point that is Right of none of its edges.
+// A polygon contains a point that is Right of none of its edges. Nearly every polygon has one of the first edges on the wrong side, so
+// its corners are not counted before.
 pub fn contains(
     vertices: &[u8],
     polygons: &[u8],
@@ -57,9 +59,12 @@ pub fn contains(
     requires { ⌜ Listed (now plan) (now vertices) (now polygons) p ⌝ }
     ensures { λ r. ⌜ r ≡ contains (floorIn (now (plan .entry)) (now (vertices .entry)) (now (polygons .entry))) point p ⌝ }
 {
-    let n = stored::corner_count(polygons, plan, p);
+    let slots = plan::slots(plan);
     let mut i = 0;
-    while i < n {
+    while i < slots {
+        if stored::corner(polygons, plan, p, i) == UNUSED {
+            return true;
+        }
         if is_right(vertices, polygons, plan, p, i, point) {
             return false;
         }
