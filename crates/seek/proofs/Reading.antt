@@ -29,7 +29,7 @@ use Rattle.seek.specs.Seek.{isStepAt, isAmong}
 
 -- ---- in the code's order, and in the record's
 
-in-order : (a b c d e f g h : Bool) → (c && (a && (d && b))) && ((e && f) && (g && h)) ≡ ((((((a && b) && c) && d) && e) && f) && g) && h
+in-order : (a b c d e f g h : Bool) → (c && (d && b)) && (a && ((e && f) && (g && h))) ≡ ((((((a && b) && c) && d) && e) && f) && g) && h
 in-order true true true true true true g h = refl
 in-order true true true true true false g h = refl
 in-order true true true true false f g h = refl
@@ -38,8 +38,12 @@ in-order true true false d e f g h = refl
 in-order true false true true e f g h = refl
 in-order true false true false e f g h = refl
 in-order true false false d e f g h = refl
-in-order false b true d e f g h = refl
-in-order false b false d e f g h = refl
+in-order false true true true e f g h = refl
+in-order false true true false e f g h = refl
+in-order false true false d e f g h = refl
+in-order false false true true e f g h = refl
+in-order false false true false e f g h = refl
+in-order false false false d e f g h = refl
 
 asked-is-stood : (s : Step) (file : List ℕ) (i : ℕ) → isStepAt s file i ≡ every 8 (stands file (i * 32) (stepWords s))
 unfolding isStepAt intervalStands pointStands every stepWords
@@ -50,15 +54,18 @@ asked-is-stood s file i =
     ap (λ (n : ℕ). asked n (i * 32 + 16 + 4) (i * 32 + 24 + 4)) k
     ∙ ap (λ (n : ℕ). asked (i * 32 + 0) n (i * 32 + 24 + 4)) y
     ∙ ap (λ (n : ℕ). asked (i * 32 + 0) (i * 32 + 20) n) z
-    ∙ in-order (eqb (wordAt file (i * 32 + 0)) (kindNumber (s .kind))) (eqb (wordAt file (i * 32 + 4)) (s .polygon)) (eqb (wordAt file (i * 32 + 8)) (s .first)) (eqb (wordAt file (i * 32 + 12)) (s .second))
-    (eqb (wordAt file (i * 32 + 16)) (bits (s .interval .0 .x))) (eqb (wordAt file (i * 32 + 20)) (bits (s .interval .0 .y)))
-    (eqb (wordAt file (i * 32 + 24)) (bits (s .interval .1 .x))) (eqb (wordAt file (i * 32 + 28)) (bits (s .interval .1 .y)))
+    ∙ in-order (at 0 (kindNumber (s .kind))) (at 4 (s .polygon)) (at 8 (s .first)) (at 12 (s .second)) (at 16 (bits (s .interval .0 .x)))
+    (at 20 (bits (s .interval .0 .y))) (at 24 (bits (s .interval .1 .x))) (at 28 (bits (s .interval .1 .y)))
   where
+    at : ℕ → ℕ → Bool
+    at k w = eqb (wordAt file (i * 32 + k)) w
+
     asked : ℕ → ℕ → ℕ → Bool
     asked kind right left =
-        (eqb (wordAt file (i * 32 + 8)) (s .first) && (eqb (wordAt file kind) (kindNumber (s .kind)) && (eqb (wordAt file (i * 32 + 12)) (s .second) && eqb (wordAt file (i * 32 + 4)) (s .polygon))))
-        && ((eqb (wordAt file (i * 32 + 16)) (bits (s .interval .0 .x)) && eqb (wordAt file right) (bits (s .interval .0 .y)))
-        && (eqb (wordAt file (i * 32 + 24)) (bits (s .interval .1 .x)) && eqb (wordAt file left) (bits (s .interval .1 .y))))
+        (at 8 (s .first) && (at 12 (s .second) && at 4 (s .polygon)))
+        && (eqb (wordAt file kind) (kindNumber (s .kind))
+        && ((at 16 (bits (s .interval .0 .x)) && eqb (wordAt file right) (bits (s .interval .0 .y)))
+        && (at 24 (bits (s .interval .1 .x)) && eqb (wordAt file left) (bits (s .interval .1 .y)))))
 
 -- ---- among the steps
 

@@ -1,7 +1,7 @@
 -- A record is sought among the steps of a node by one walk round its polygon: what one part of an edge decides, what one edge decides, and what is left to the
 -- edges after it. Rests on the laws of the walk (going, proofs/Left and Parts). Assumes nothing.
 use Prim.Native.Nat.{ℕ, _+_, _≤_, _<_}
-use mathlib.Core.Path.{_≡_, refl, sym, ap, _∙_, subst}
+use mathlib.Core.Path.{_≡_, refl, sym, ap, ap₂, _∙_, subst}
 use mathlib.Core.Bool.{Bool, true, false, not, cond, _&&_, _||_}
 use mathlib.Core.List.{List, [], _∷_, _++_}
 use borrow.Author.Tests.{eq-eqb, ne-eqb}
@@ -14,9 +14,10 @@ use Rattle.cone.specs.declared.Clipped.the-variants.{Seen, Nothing}
 use Rattle.cone.specs.Cone.{clipToConeOf}
 use Rattle.cut.specs.declared.SuccessorType.{SuccessorType}
 use Rattle.walk.specs.declared.Walked.{Walked}
+use Rattle.walk.specs.declared.Part.{Part}
 use Rattle.walk.specs.declared.Successor.{Successor}
 use Rattle.walk.specs.declared.round.Round.{Round}
-use Rattle.walk.specs.Walk.{partsOf}
+use Rattle.walk.specs.Walk.{partsOf, partAt}
 use Rattle.walk.specs.Round.{successorsOn}
 use Rattle.walk.specs.Turns.{isOverOf, edgeNumberOf, nextOf}
 use Rattle.plan.specs.Plan.{isMarked}
@@ -24,6 +25,8 @@ use Rattle.stored.specs.Stored.{Floor, Polygon, verticesOf, floorIn, recordIn, 
 use Rattle.edges.specs.Where.{isTurn}
 use Rattle.edges.specs.Ground.{Ground}
 use Rattle.route.specs.declared.Step.{Step}
+use Rattle.route.specs.Step.{kindNumber}
+use Rattle.records.specs.Records.{kindWord, polygonWord, firstWord, secondWord}
 use Rattle.steps.specs.declared.Node.{Node}
 use Rattle.steps.specs.declared.Permitted.{Permitted}
 use Rattle.steps.specs.declared.Permitted.the-variants.{Yes, No}
@@ -33,7 +36,7 @@ use Rattle.going.specs.Going.{beginRound, walkedOn, leftIn, Yielded, Stands, Go
 use Rattle.going.proofs.Rounds.{edgesLeft, begin-goes, next-goes, fewer-left, its-polygon}
 use Rattle.going.proofs.Left.{left-begin, steps-left-next, left-over}
 use Rattle.going.proofs.Parts.{fromPart, successorAt, from-next, from-none}
-use Rattle.seek.specs.Seek.{isStepAt, isAmong, namesAt, endsAt, overAt}
+use Rattle.seek.specs.Seek.{isStepAt, isAmong, edgeStands, endsAt, partStands}
 
 -- ---- what a node sees of an interval
 
@@ -58,46 +61,46 @@ module _ (file : List ℕ) (i : ℕ) where
   permittedAt (Yes s) = isStepAt s file i
   permittedAt No = false
 
-  module _ (q : Polygon) (s : Successor) where
+  module _ (q : Polygon) (e : ℕ) (part : Part) where
     abbrev step : Segment → Step
-    step interval = record {
-      kind = s .part .kind;
-      polygon = neighbour q (s .edge);
-      first = corner q (s .edge);
-      second = cornerAfter q (s .edge);
-      interval = interval;
-    }
+    step interval = record { kind = part .kind; polygon = neighbour q e; first = corner q e; second = cornerAfter q e; interval = interval }
 
     abbrev ifInterval : Segment → Permitted
     ifInterval interval = cond (not (isInterval interval)) No (Yes (step interval))
 
-    ends-of : (interval : Segment) (b : Bool) → isInterval interval ≡ b
-        → namesAt q s file i && endsAt (Seen interval) file i ≡ permittedAt (cond (not b) No (Yes (step interval)))
-    unfolding permittedAt isStepAt namesAt endsAt
-    ends-of interval true h = rw h
-    ends-of interval false h = rw h (and-no (namesAt q s file i))
+    abbrev ends : Bool
+    ends = eqb (firstWord file i) (corner q e) && (eqb (secondWord file i) (cornerAfter q e) && eqb (polygonWord file i) (neighbour q e))
 
-    seen-of : (seen : Clipped) → namesAt q s file i && endsAt seen file i ≡ permittedAt (ifSeen seen ifInterval)
+    abbrev kinds : Bool
+    kinds = eqb (kindWord file i) (kindNumber (part .kind))
+
+    ends-of : (interval : Segment) (b : Bool) → isInterval interval ≡ b
+        → ends && (kinds && endsAt (Seen interval) file i) ≡ permittedAt (cond (not b) No (Yes (step interval)))
+    unfolding permittedAt isStepAt endsAt
+    ends-of interval true h = rw h
+    ends-of interval false h = rw (h, and-no kinds) (and-no ends)
+
+    seen-of : (seen : Clipped) → ends && (kinds && endsAt seen file i) ≡ permittedAt (ifSeen seen ifInterval)
     unfolding permittedAt endsAt
     seen-of (Seen interval) = ends-of interval (isInterval interval) refl
-    seen-of Nothing = and-no (namesAt q s file i)
+    seen-of Nothing = rw (and-no kinds) (and-no ends)
 
-    -- what the code asks of a part is what the step over it decides
+    -- what the code asks of an edge and of a part is what the step over it decides
     asked-is : (wall allowed : Bool) (seen : Clipped)
-        → cond wall false (namesAt q s file i && (allowed && endsAt seen file i))
-        ≡ permittedAt (cond wall No (cond (not allowed) No (ifSeen seen ifInterval)))
+        → cond wall false ends && (kinds && (allowed && endsAt seen file i)) ≡ permittedAt (cond wall No (cond (not allowed) No (ifSeen seen ifInterval)))
     unfolding permittedAt
     asked-is true allowed seen = refl
     asked-is false true seen = seen-of seen
-    asked-is false false seen = and-no (namesAt q s file i)
+    asked-is false false seen = rw (and-no kinds) (and-no ends)
 
-  over-is : (f : Floor) (node : Node) (s : Successor)
-      → overAt (f .vertices) (isTurn f) (polygon f (node .polygon)) node s file i ≡ permittedAt (stepOf f node s)
-  unfolding overAt stepOf
-  over-is f node s =
+  over-is : (f : Floor) (node : Node) (e : ℕ) (part : Part)
+      → edgeStands (polygon f (node .polygon)) e file i && partStands (f .vertices) (isTurn f) node part file i
+      ≡ permittedAt (stepOf f node (record { edge = e; part = part }))
+  unfolding edgeStands partStands stepOf
+  over-is f node e part =
       let q = polygon f (node .polygon) in
-      asked-is q s (eqb (neighbour q (s .edge)) unused) (isAllowed (f .vertices) (isTurn f) node (s .part .kind))
-      (clipped (f .vertices) node (s .part .kind) (s .part .interval))
+      asked-is q e part (eqb (neighbour q e) unused) (isAllowed (f .vertices) (isTurn f) node (part .kind))
+      (clipped (f .vertices) node (part .kind) (part .interval))
 
   -- ---- some steps first
 
@@ -139,19 +142,35 @@ module _ (plan vs ps : List ℕ) (node : Node) (h : Stands plan vs ps node) (fil
 
   -- ---- the parts of one edge
 
-  module _ (g : Ground plan vs ps) (edge : ℕ) (walked : Walked) (yielded : Yielded walked) where
+  -- over an edge that the record does not name, none of its steps is it
+  pub none-over : (edge : ℕ) → edgeStands its edge file i ≡ false → (parts : List Part) → isAmong (stepsOver f node (successorsOn edge parts)) file i ≡ false
+  unfolding stepsOver isAmong
+  none-over edge n [] = refl
+  none-over edge n (part ∷ parts) =
+      let first : permittedAt file i (stepOf f node (record { edge = edge; part = part })) ≡ false
+      = sym (over-is file i f node edge part)
+      ∙ rw (its-polygon plan vs ps node h) (ap (λ (b : Bool). b && partStands (f .vertices) (isTurn f) node part file i) n) in
+      among-first file i (stepOf f node (record { edge = edge; part = part })) (stepsOver f node (successorsOn edge parts))
+      ∙ ap₂ _||_ first (none-over edge n parts)
+
+  module _ (g : Ground plan vs ps) (edge : ℕ) (named : edgeStands its edge file i ≡ true) (walked : Walked) (yielded : Yielded walked) where
     abbrev from : ℕ → Bool
     from k = isAmong (fromPart f node edge walked k) file i
 
     -- whether the record is the step over the k-th part, as the code asks it
     abbrev here : ℕ → Bool
-    here k = overAt (verticesOf vs) (isMarked plan) its node (successorAt edge walked k) file i
+    here k = partStands (verticesOf vs) (isMarked plan) node (partAt (walked .parts) k) file i
+
+    by-plan : (part : Part) → partStands (verticesOf vs) (isMarked plan) node part file i ≡ partStands (verticesOf vs) (isTurn f) node part file i
+    unfolding partStands
+    by-plan part = rw (allowed-by-plan g node (h .first-listed) (h .second-listed) (part .kind))
 
     here-is : (k : ℕ) → here k ≡ permittedAt file i (stepOf f node (successorAt edge walked k))
-    unfolding overAt
     here-is k =
-        rw (allowed-by-plan g node (h .first-listed) (h .second-listed) (successorAt edge walked k .part .kind), ← its-polygon plan vs ps node h)
-        (over-is file i f node (successorAt edge walked k))
+        let part = partAt (walked .parts) k in
+        by-plan part
+        ∙ ap (λ (b : Bool). b && partStands (f .vertices) (isTurn f) node part file i) (sym named)
+        ∙ rw (← its-polygon plan vs ps node h) (over-is file i f node edge part)
 
     next-is : (k : ℕ) → k < walked .count → from k ≡ here k || from (k + 1)
     next-is k l =

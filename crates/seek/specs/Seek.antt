@@ -8,7 +8,7 @@ use Rattle.point.specs.declared.Point.{Point}
 use Rattle.cone.specs.declared.Clipped.{Clipped}
 use Rattle.cone.specs.declared.Clipped.the-variants.{Seen, Nothing}
 use Rattle.cone.specs.Landing.{landsOnOf}
-use Rattle.walk.specs.declared.Successor.{Successor}
+use Rattle.walk.specs.declared.Part.{Part}
 use Rattle.stored.specs.Stored.{Polygon, unused, corner, neighbour, cornerAfter, vertexIn}
 use Rattle.route.specs.declared.Step.{Step}
 use Rattle.route.specs.Step.{kindNumber}
@@ -18,27 +18,25 @@ use Rattle.steps.specs.Steps.{isInterval, isAllowed, clipped}
 
 -- ---- a step
 
--- "Step: kind 2, 3 or 4, polygon entered, the edge's two vertices, interval right x, y, left x, y." The first vertex is looked at first, since no other edge of a
--- polygon begins with it.
+-- "Step: kind 2, 3 or 4, polygon entered, the edge's two vertices, interval right x, y, left x, y."
 unfoldable pub isStepAt : Step → List ℕ → ℕ → Bool
 isStepAt s file i =
-    (eqb (firstWord file i) (s .first)
-    && (eqb (kindWord file i) (kindNumber (s .kind)) && (eqb (secondWord file i) (s .second) && eqb (polygonWord file i) (s .polygon))))
-    && intervalStands (s .interval) file i
+    (eqb (firstWord file i) (s .first) && (eqb (secondWord file i) (s .second) && eqb (polygonWord file i) (s .polygon)))
+    && (eqb (kindWord file i) (kindNumber (s .kind)) && intervalStands (s .interval) file i)
 
 -- one of the steps of a list
 unfoldable pub isAmong : List Step → List ℕ → ℕ → Bool
 isAmong [] file i = false
 isAmong (s ∷ steps) file i = isStepAt s file i || isAmong steps file i
 
--- ---- the step over a part of an edge
+-- ---- the step over a part of an edge, in the order in which the code asks
 
--- what the record says but for the interval: a step over this part of an edge of the polygon q
-unfoldable pub namesAt : Polygon → Successor → List ℕ → ℕ → Bool
-namesAt q s file i =
-    eqb (firstWord file i) (corner q (s .edge))
-    && (eqb (kindWord file i) (kindNumber (s .part .kind))
-    && (eqb (secondWord file i) (cornerAfter q (s .edge)) && eqb (polygonWord file i) (neighbour q (s .edge))))
+-- what the record says of the edge, whichever part of it is stepped over: an edge of the polygon q that is no wall, its vertices and its neighbour. No other edge
+-- of a polygon begins with its first vertex, so one edge at most is gone into further.
+unfoldable pub edgeStands : Polygon → ℕ → List ℕ → ℕ → Bool
+edgeStands q e file i =
+    cond (eqb (neighbour q e) unused) false
+    (eqb (firstWord file i) (corner q e) && (eqb (secondWord file i) (cornerAfter q e) && eqb (polygonWord file i) (neighbour q e)))
 
 -- what is seen is an interval to step over, and the record's
 unfoldable pub endsAt : Clipped → List ℕ → ℕ → Bool
@@ -49,9 +47,8 @@ endsAt Nothing file i = false
 unfoldable pub turnsAt : List Point → (ℕ → Bool) → ℕ → Point → Point → Bool
 turnsAt vertices turns v end root = landsOnOf end (vertexIn vertices v) root && turns v
 
--- the record is the step over a part of an edge, in the order in which the code asks
-unfoldable pub overAt : List Point → (ℕ → Bool) → Polygon → Node → Successor → List ℕ → ℕ → Bool
-overAt vertices turns q node s file i =
-    cond (eqb (neighbour q (s .edge)) unused) false
-    (namesAt q s file i
-    && (isAllowed vertices turns node (s .part .kind) && endsAt (clipped vertices node (s .part .kind) (s .part .interval)) file i))
+-- what the record says of the part: its kind, which has to be allowed, and what is seen of it
+unfoldable pub partStands : List Point → (ℕ → Bool) → Node → Part → List ℕ → ℕ → Bool
+partStands vertices turns node part file i =
+    eqb (kindWord file i) (kindNumber (part .kind))
+    && (isAllowed vertices turns node (part .kind) && endsAt (clipped vertices node (part .kind) (part .interval)) file i)

@@ -13,7 +13,7 @@ ghost use Rattle.stored.specs.Stored.{vertexCount, verticesOf, recordIn, floorI
 ghost use Rattle.edges.specs.Ground.{Ground};
 ghost use Rattle.steps.specs.Steps.{isAllowed, clipped, stepsOver, stepsFrom};
 ghost use Rattle.going.specs.Going.{walkedOn, Stands, Goes};
-ghost use Rattle.seek.specs.Seek.{namesAt, endsAt, turnsAt, overAt, isAmong};
+ghost use Rattle.seek.specs.Seek.{edgeStands, endsAt, turnsAt, partStands, isAmong};
 use cone::Clipped;
 use cut::SuccessorType;
 use plan::PLAN;
@@ -22,28 +22,28 @@ use point::Segment;
 use route::kind_number;
 use steps::Node;
 use stored::UNUSED;
+use walk::Part;
 use walk::Round;
-use walk::Successor;
 
-// Whether the record has the kind, the vertices and the neighbour of a step over this part of an edge of polygon p.
-fn names(
+// Whether the record is of a step over this edge of polygon p, as far as the edge says: no wall, its vertices, the neighbour.
+fn is_over(
     polygons: &[u8],
     plan: &[u32; PLAN],
     p: usize,
-    successor: Successor,
+    edge: usize,
     route: &[u8],
     i: usize,
 ) -> bool
-    requires { ⌜ Lies (now plan) (now polygons) p × (successor .edge < slotsIn (now plan)) × ((i + 1) * 32 ≤ length (now route)) ⌝ }
-    ensures { λ r. ⌜ r ≡ namesAt (recordIn (now (plan .entry)) (now (polygons .entry)) p) successor (now (route .entry)) i ⌝ }
+    requires { ⌜ Lies (now plan) (now polygons) p × (edge < slotsIn (now plan)) × ((i + 1) * 32 ≤ length (now route)) ⌝ }
+    ensures { λ r. ⌜ r ≡ edgeStands (recordIn (now (plan .entry)) (now (polygons .entry)) p) edge (now (route .entry)) i ⌝ }
 {
-    let edge = successor.edge;
-    let part = successor.part;
-    let kind = part.kind;
+    let neighbour = stored::neighbour(polygons, plan, p, edge);
+    if neighbour == UNUSED {
+        return false;
+    }
     records::first_at(route, i) == stored::corner(polygons, plan, p, edge)
-        && (records::kind_at(route, i) == kind_number(kind)
-            && (records::second_at(route, i) == stored::corner_after(polygons, plan, p, edge)
-                && records::polygon_at(route, i) == stored::neighbour(polygons, plan, p, edge)))
+        && (records::second_at(route, i) == stored::corner_after(polygons, plan, p, edge)
+            && records::polygon_at(route, i) == neighbour)
 }
 
 // Whether what is seen is an interval to step over, and the record's.
@@ -100,31 +100,24 @@ fn see(vertices: &[u8], node: Node, kind: SuccessorType, interval: Segment) -> C
     Clipped::Seen(interval)
 }
 
-// Whether the record is the step over a part of an edge.
-fn is_over(
+// Whether the record is of a step over this part of an edge, as far as the part says.
+fn is_part(
     vertices: &[u8],
-    polygons: &[u8],
     plan: &[u32; PLAN],
     node: Node,
-    successor: Successor,
+    part: Part,
     route: &[u8],
     i: usize,
 ) -> bool
-    requires { ⌜ Stands (now plan) (now vertices) (now polygons) node × Ground (now plan) (now vertices) (now polygons) ⌝ }
-    requires { ⌜ (successor .edge < slotsIn (now plan)) × ((i + 1) * 32 ≤ length (now route)) ⌝ }
+    requires { ⌜ VerticesPlanned (now plan) (now vertices) × (node .first < vertexCountIn (now plan)) × (node .second < vertexCountIn (now plan)) ⌝ }
+    requires { ⌜ (i + 1) * 32 ≤ length (now route) ⌝ }
     ensures { λ r.
         let vs = verticesOf (now (vertices .entry)) in
-        let q = recordIn (now (plan .entry)) (now (polygons .entry)) (node .polygon) in
-        ⌜ r ≡ overAt vs (isMarked (now (plan .entry))) q node successor (now (route .entry)) i ⌝ }
+        ⌜ r ≡ partStands vs (isMarked (now (plan .entry))) node part (now (route .entry)) i ⌝ }
 {
-    let p = node.polygon as usize;
-    if stored::neighbour(polygons, plan, p, successor.edge) == UNUSED {
-        return false;
-    }
-    let part = successor.part;
     let kind = part.kind;
     let interval = part.interval;
-    names(polygons, plan, p, successor, route, i)
+    records::kind_at(route, i) == kind_number(kind)
         && (allows(vertices, plan, node, kind)
             && ends_there(see(vertices, node, kind, interval), route, i))
 }
@@ -135,7 +128,7 @@ struct Looked {
     next: Round,
 }
 
-// Walks the round's edge and looks for the record among the steps over its parts.
+// Walks the round's edge and looks for the record among the steps over its parts, where it is of a step over that edge at all.
 fn look_on_edge(
     vertices: &[u8],
     polygons: &[u8],
@@ -159,11 +152,13 @@ fn look_on_edge(
     let walked = going::walk(vertices, polygons, plan, node, round);
     let kind = walked.kind;
     let next = round.next(kind);
+    if !is_over(polygons, plan, node.polygon as usize, edge, route, i) {
+        return Looked { found: false, next };
+    }
     let mut k = 0;
     while k < walked.count {
         let part = walked.parts[k];
-        let successor = Successor { edge, part };
-        if is_over(vertices, polygons, plan, node, successor, route, i) {
+        if is_part(vertices, plan, node, part, route, i) {
             return Looked { found: true, next };
         }
         k += 1;

@@ -3,16 +3,20 @@ use Prim.Native.Nat.{ℕ, _-_, _<_}
 use native.Mathlib.Omega.{arith}
 use denote.Ref.{now}
 use mathlib.Core.Path.{_≡_, refl, sym, ap, ap₂, _∙_, subst}
+use mathlib.Core.Bool.{true}
+use borrow.Author.Needs.{needs}
+use borrow.Author.Tests.{not-true, not-false}
 use Rattle.walk.specs.declared.Walked.{Walked}
+use Rattle.walk.specs.Walk.{partsOf}
 use Rattle.walk.specs.Turns.{edgeNumberOf, nextOf}
 use Rattle.plan.specs.Plan.{slotsIn}
-use Rattle.stored.specs.Stored.{Floor, floorIn}
+use Rattle.stored.specs.Stored.{Floor, recordIn, floorIn}
 use Rattle.going.specs.Going.{walkedOn, Yielded, Turning}
 use Rattle.going.proofs.Rounds.{on-yields, turning}
-use Rattle.going.proofs.Stepping.{edge-inside}
+use Rattle.going.proofs.Stepping.{polygon-lies, edge-inside}
 use Rattle.going.proofs.Parts.{fromPart}
-use Rattle.seek.specs.Seek.{isAmong}
-use Rattle.seek.proofs.Seeking.{part-found, part-passed, parts-passed}
+use Rattle.seek.specs.Seek.{isAmong, edgeStands}
+use Rattle.seek.proofs.Seeking.{none-over, part-found, part-passed, parts-passed}
 use Rattle.seek.proofs.look_on_edge.Statement.{statement}
 use Rattle.seek.proofs.look_on_edge.Tie as tie
 
@@ -29,14 +33,21 @@ abbrev μ-loop : tie.MeasureT-loop
 abbrev start : tie.After-edge Inv-loop μ-loop → tie.Start Inv-loop μ-loop
 start c = c .before .before .before .before
 
-abbrev walking : tie.At-loop Inv-loop μ-loop → tie.After-walk Inv-loop μ-loop
-walking l = l .before .before
+abbrev stepped : tie.After-is-over Inv-loop μ-loop → tie.After-next Inv-loop μ-loop
+stepped c = c .before .before
 
-abbrev begun : tie.At-loop Inv-loop μ-loop → tie.Start Inv-loop μ-loop
-begun l = start (walking l .before)
+abbrev walking : tie.After-is-over Inv-loop μ-loop → tie.After-walk Inv-loop μ-loop
+walking c = stepped c .before
+
+abbrev begun : tie.After-is-over Inv-loop μ-loop → tie.Start Inv-loop μ-loop
+begun c = start (walking c .before)
+
+-- whether the edge is the record's
+abbrev asked : tie.At-loop Inv-loop μ-loop → tie.After-is-over Inv-loop μ-loop
+asked l = l .before .before
 
 -- the turn in which a part was asked
-abbrev asking : tie.After-is-over Inv-loop μ-loop → tie.In-loop Inv-loop μ-loop
+abbrev asking : tie.After-is-part Inv-loop μ-loop → tie.In-loop Inv-loop μ-loop
 asking c = c .before .before
 
 abbrev floor : tie.Start Inv-loop μ-loop → Floor
@@ -51,20 +62,26 @@ yields : (c : tie.After-walk Inv-loop μ-loop) → Yielded (c .walk .result)
 yields c = let s = start (c .before) in subst Yielded (sym (c .walk .ensures)) (on-yields (floor s) (s .args .node) (s .args .round))
 
 few : (c : tie.In-loop Inv-loop μ-loop) → c .before .loop .k < 3
-few c = omega (arith, yields (walking (c .before)) .few, c .loop-test .taken)
+few c = omega (arith, yields (walking (asked (c .before))) .few, c .loop-test .taken)
+
+named : (l : tie.At-loop Inv-loop μ-loop) → let s = begun (asked l) in
+    edgeStands (recordIn (now (s .args .plan)) (now (s .args .polygons)) (s .args .node .polygon)) (walking (asked l) .before .edge .result)
+    (now (s .args .route)) (s .args .i) ≡ true
+named l = sym (asked l .is-over .ensures) ∙ not-false _ (l .before .if1 .left)
 
 -- what the contract says of the edge, by what the code has of it
-as-said : (l : tie.At-loop Inv-loop μ-loop) → let s = begun l in
-    isAmong (fromPart (floor s) (s .args .node) (walking l .before .edge .result) (walking l .walk .result) 0) (now (s .args .route)) (s .args .i)
-    ≡ isAmong (fromPart (floor s) (s .args .node) (edgeNumberOf (s .args .round)) (walkedOn (floor s) (s .args .node) (s .args .round)) 0) (now (s .args .route)) (s .args .i)
-as-said l =
-    let s = begun l in
+as-said : (c : tie.After-is-over Inv-loop μ-loop) → let s = begun c in
+    isAmong (fromPart (floor s) (s .args .node) (walking c .before .edge .result) (walking c .walk .result) 0) (now (s .args .route)) (s .args .i)
+    ≡ isAmong (fromPart (floor s) (s .args .node) (edgeNumberOf (s .args .round)) (walkedOn (floor s) (s .args .node) (s .args .round)) 0)
+    (now (s .args .route)) (s .args .i)
+as-said c =
+    let s = begun c in
     ap₂ (λ (e : ℕ) (w : Walked). isAmong (fromPart (floor s) (s .args .node) e w 0) (now (s .args .route)) (s .args .i))
-    (walking l .before .edge .ensures) (walking l .walk .ensures)
+    (walking c .before .edge .ensures) (walking c .walk .ensures)
 
-next-is : (l : tie.At-loop Inv-loop μ-loop) → let s = begun l in
-    l .before .next .result ≡ nextOf (s .args .round) (walkedOn (floor s) (s .args .node) (s .args .round) .kind)
-next-is l = l .before .next .ensures ∙ ap (λ w. nextOf (begun l .args .round) (w .kind)) (walking l .walk .ensures)
+next-is : (c : tie.After-is-over Inv-loop μ-loop) → let s = begun c in
+    stepped c .next .result ≡ nextOf (s .args .round) (walkedOn (floor s) (s .args .node) (s .args .round) .kind)
+next-is c = stepped c .next .ensures ∙ ap (λ w. nextOf (begun c .args .round) (w .kind)) (walking c .walk .ensures)
 
 -- ---- before the loop
 
@@ -74,46 +91,64 @@ edge-requires c κs = let t = turns (c .before .before .before) in (t .entry-in,
 walk-requires : tie.Need-walk-requires Inv-loop μ-loop
 walk-requires c κs = (start c .pre .0 .0, turns (start c))
 
--- ---- a part
-
 is-over-requires : tie.Need-is-over-requires Inv-loop μ-loop
 is-over-requires c κs =
-    let l = c .before .before in
-    let s = begun l in
-    let inside = edge-inside _ _ _ (s .args .node) (s .pre .0 .0) (s .args .round) (s .pre .1 .0) (s .pre .1 .1) in
-    (s .pre .0, (subst (λ (n : ℕ). n < slotsIn (now (s .args .plan))) (sym (walking l .before .edge .ensures)) inside, s .pre .1 .2))
+    let at-edge = c .before .before .before in
+    let s = start at-edge in
+    let inside = edge-inside _ _ _ (s .args .node) (s .pre .0 .0) (s .args .round) (s .pre .1 .0) (s .pre .1 .1) in (
+      polygon-lies _ _ _ (s .args .node) (s .pre .0 .0),
+      subst (λ (n : ℕ). n < slotsIn (now (s .args .plan))) (sym (at-edge .edge .ensures)) inside,
+      s .pre .1 .2,
+    )
 
 returns : tie.Need-returns Inv-loop μ-loop
 returns c =
+    let by = c .before in
+    let s = begun by in (
+      sym (sym (as-said by) ∙ none-over _ _ _ (s .args .node) (s .pre .0 .0) (now (s .args .route)) (s .args .i)
+          (walking by .before .edge .result) (sym (by .is-over .ensures) ∙ not-true _ (c .if1 .taken)) (partsOf (walking by .walk .result))),
+      next-is by,
+    )
+
+-- ---- a part
+
+is-part-requires : tie.Need-is-part-requires Inv-loop μ-loop
+is-part-requires c κs =
+    let s = begun (asked (c .before .before)) in
+    ((s .pre .0 .1 .vertices-planned, s .pre .0 .0 .first-listed, s .pre .0 .0 .second-listed), s .pre .1 .2)
+
+returns-2 : tie.Need-returns-2 Inv-loop μ-loop
+returns-2 c =
     let turn = asking (c .before) in
     let l = turn .before in
-    let s = begun l in (
-      sym (sym (as-said l) ∙ part-found _ _ _ (s .args .node) (s .pre .0 .0) (now (s .args .route)) (s .args .i) (s .pre .0 .1) _ _ (yields (walking l)) (l .loop .k)
-          (l .loop .inv) (turn .loop-test .taken) (sym (c .before .is-over .ensures) ∙ c .if1 .taken)),
-      next-is l,
+    let s = begun (asked l) in (
+      sym (sym (as-said (asked l)) ∙ part-found _ _ _ (s .args .node) (s .pre .0 .0) (now (s .args .route)) (s .args .i) (s .pre .0 .1) _ (named l) _
+          (yields (walking (asked l))) (l .loop .k) (l .loop .inv) (turn .loop-test .taken) (sym (c .before .is-part .ensures) ∙ c .if2 .taken)),
+      next-is (asked l),
     )
 
 loop-again : tie.Need-loop-again Inv-loop μ-loop
 loop-again c =
     let turn = asking (c .before) in
     let l = turn .before in
-    let s = begun l in
-    part-passed _ _ _ (s .args .node) (s .pre .0 .0) (now (s .args .route)) (s .args .i) (s .pre .0 .1) _ _ (yields (walking l)) (l .loop .k)
-    (l .loop .inv) (turn .loop-test .taken) (sym (c .before .is-over .ensures) ∙ c .if1 .left)
+    let s = begun (asked l) in
+    part-passed _ _ _ (s .args .node) (s .pre .0 .0) (now (s .args .route)) (s .args .i) (s .pre .0 .1) _ (named l) _ (yields (walking (asked l)))
+    (l .loop .k) (l .loop .inv) (turn .loop-test .taken) (sym (c .before .is-part .ensures) ∙ c .if2 .left)
 
 -- ---- behind the last
 
-returns-2 : tie.Need-returns-2 Inv-loop μ-loop
-returns-2 c =
+returns-3 : tie.Need-returns-3 Inv-loop μ-loop
+returns-3 c =
     let l = c .before in
-    let s = begun l in (
-      sym (sym (as-said l) ∙ parts-passed _ _ _ (s .args .node) (s .pre .0 .0) (now (s .args .route)) (s .args .i) (s .pre .0 .1) _ _ (yields (walking l)) (l .loop .k)
-          (l .loop .inv) (c .loop-test .left)),
-      next-is l,
+    let s = begun (asked l) in (
+      sym (sym (as-said (asked l)) ∙ parts-passed _ _ _ (s .args .node) (s .pre .0 .0) (now (s .args .route)) (s .args .i) (s .pre .0 .1) _ (named l) _
+          (yields (walking (asked l))) (l .loop .k) (l .loop .inv) (c .loop-test .left)),
+      next-is (asked l),
     )
 
 pub look-on-edge-spec : {M : Type 1} → statement M
 look-on-edge-spec =
     tie.close
-    (tie.spec Inv-loop μ-loop edge-requires walk-requires (λ c κs. turns (start (c .before)) .taken-in) (λ c. refl) (λ c. omega (arith, few c)) few
-    is-over-requires returns (λ c. omega (arith, few (asking (c .before)))) (λ c. omega (arith, asking (c .before) .loop-test .taken)) loop-again returns-2)
+    (tie.spec Inv-loop μ-loop edge-requires walk-requires (λ c κs. turns (start (c .before)) .taken-in) (λ c. search needs) is-over-requires returns (λ c. refl)
+    (λ c. omega (arith, few c)) few is-part-requires returns-2 (λ c. omega (arith, few (asking (c .before))))
+    (λ c. omega (arith, asking (c .before) .loop-test .taken)) loop-again returns-3)
