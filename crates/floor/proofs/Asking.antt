@@ -1,23 +1,26 @@
 -- What is known where a floor that was accepted is asked a question and finds start and goal inside: whatever searches, judges or reads out leans on it. Assumes nothing.
 use Prim.Native.Nat.{ℕ, _≤_, _<_}
 use native.Mathlib.Omega.{arith}
-use mathlib.Core.Path.{_≡_, refl, subst}
+use mathlib.Core.Path.{_≡_, refl, sym, subst}
 use mathlib.Core.Bool.{Bool, true, false, not, cond}
 use mathlib.Core.List.{List}
 use borrow.Author.Tests.{leb-false}
 use lib.Dec.{leb}
 use lib.ListN.{length}
-use Rattle.plan.specs.Plan.{polygonCountIn}
-use Rattle.stored.specs.Stored.{Floor, floorIn, questionOf}
+use Rattle.plan.specs.Plan.{slotsIn, polygonCountIn}
+use Rattle.stored.specs.Stored.{Floor, floorOf, floorIn, questionOf}
 use Rattle.stored.proofs.Records.{polygons-counted}
 use Rattle.faults.specs.Tests.{questionRight}
 use Rattle.edges.specs.Where.{polygonOf}
 use Rattle.edges.specs.Ground.{Ground}
 use Rattle.floor.specs.declared.Refusal.{Refusal}
 use Rattle.floor.specs.declared.Refusal.the-variants.{Question, StartOutside, GoalOutside}
+use Rattle.floor.specs.declared.FloorLook.{FloorLook}
+use Rattle.floor.specs.declared.FloorLook.the-variants.{Accepted as Sound, Faulty}
 use Rattle.floor.specs.declared.Look.the-variants.{Inside, Refused}
-use Rattle.floor.specs.Look.{askOf}
+use Rattle.floor.specs.Look.{floorLookOf, askOf, askIf, lookOf, planAfter}
 use Rattle.floor.proofs.Looked.{question-length}
+use Rattle.floor.proofs.Planned.{grounded, slots-are as slots-are-its}
 
 pub record Asking (plan vs ps question : List ℕ) (from to : ℕ) : Type 0 where
   pub right : questionRight question ≡ true
@@ -69,3 +72,34 @@ asked-inside {plan} {vs} {ps} g question {from} {to} e = go (questionRight quest
       from-is = first-is a b from to e;
       to-is = second-is a b from to e;
     }
+
+-- ---- after a look at a floor and a question
+
+-- what a look with a plan leaves where it finds start and goal inside
+pub record Looked (slots : ℕ) (plan vs ps question : List ℕ) (from to : ℕ) : Type 0 where
+  pub ground : Ground plan vs ps
+  pub slots-are : slotsIn plan ≡ slots
+  pub asking : Asking plan vs ps question from to
+
+module _ (s : ℕ) (vs ps question : List ℕ) (some : 0 < s) (few : s ≤ 16) {from to : ℕ} where
+  -- the floor is sound, and the question is answered so
+  both : lookOf s vs ps question ≡ Inside from to → (floorLookOf s vs ps ≡ Sound) × (askOf (floorOf s vs ps) question ≡ Inside from to)
+  unfolding lookOf
+  both e = go (floorLookOf s vs ps) refl e
+    where
+      go : (look : FloorLook) → floorLookOf s vs ps ≡ look → askIf look (askOf (floorOf s vs ps) question) ≡ Inside from to
+          → (floorLookOf s vs ps ≡ Sound) × (askOf (floorOf s vs ps) question ≡ Inside from to)
+      go Sound h e = (h, e)
+      go (Faulty r) h e = not-inside r from to e
+
+  pub looked-inside : lookOf s vs ps question ≡ Inside from to → (before : List ℕ) {plan : List ℕ} → plan ≡ planAfter s vs ps before
+      → Looked s plan vs ps question from to
+  looked-inside e before {plan} after =
+      let h = both e in
+      let on = grounded s vs ps some few (h .0) before after in
+      let slots = slots-are-its s vs ps some few (h .0) before after in
+      record {
+        ground = on;
+        slots-are = slots;
+        asking = asked-inside on question (subst (λ (k : ℕ). askOf (floorOf k vs ps) question ≡ Inside from to) (sym slots) (h .1));
+      }

@@ -11,14 +11,13 @@ use mathlib.Core.Logic.{_↔_}
 use borrow.Author.Tests.{ltb-true, ltb-false, lt-ltb, le-ltb, leb-true, leb-false, le-leb, lt-leb, not-true, not-false}
 use lib.Dec.{T, ltb, leb}
 use lib.ListN.{length, getD}
-use Rattle.counts.specs.Counts.{first, Least, TellsLowest}
+use Rattle.counts.specs.Counts.{Least, TellsLowest}
 use Rattle.counts.proofs.Decides.{holds-not, not-holds, every-decides, first-tells-fault, first-is-least, least-is-first, some-is-so}
 use Rattle.float.proofs.Tests.{untrue}
 use Rattle.point.specs.declared.Point.{Point}
 use Rattle.point.specs.declared.EdgeSide.{EdgeSide}
 use Rattle.point.specs.declared.EdgeSide.the-variants.{Left, Right, Edge}
 use Rattle.point.specs.Sides.{sideOf, sameSideOf}
-use Rattle.floor.specs.declared.Refusal.{Refusal}
 use Rattle.floor.specs.declared.Refusal.the-variants.{VertexLength, PolygonLength, Vertex, Corners as CornersFault, Links as LinksFault, Question, StartOutside, GoalOutside}
 use Rattle.floor.specs.declared.FloorLook.{FloorLook}
 use Rattle.floor.specs.declared.FloorLook.the-variants.{Accepted as Sound, Faulty}
@@ -26,7 +25,7 @@ use Rattle.floor.specs.declared.Look.{Look}
 use Rattle.floor.specs.declared.Look.the-variants.{Inside, Refused}
 use Rattle.stored.specs.Stored.{Floor, origin, floorOf, questionOf, polygon, edge, cornerCount}
 use Rattle.faults.specs.Tests.{lengthRight, pointRight, cornersRight, linksRight, questionRight}
-use Rattle.faults.specs.Accepted.{Links, Accepted}
+use Rattle.faults.specs.Accepted.{Links}
 use Rattle.edges.specs.Where.{contains, polygonOf}
 use Rattle.floor.specs.Look.{badVertex, badCorners, badLinks, recordsLookOf, cornersLookOf, linksLookOf, andThen, floorLookOf, askIf, askOf, lookOf}
 use Rattle.floor.specs.Exactly.{Whole, Lists, VertexRight, CornersRight, Asked, Contains, InSome, FloorCase, Case}

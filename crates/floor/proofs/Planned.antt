@@ -1,15 +1,15 @@
 -- The plan along a look: laid where the lists' lengths are right, then the corners of every polygon are, then the turn vertices are marked, and it is the plan of
 -- the ground that an accepted floor is. Assumes nothing.
 use Prim.Native.Nat.{ℕ, _*_, _/_, _≤_, _<_}
-use mathlib.Core.Path.{_≡_, refl, sym, ap, _∙_, subst}
-use mathlib.Core.Bool.{Bool, true, false, not, _&&_, cond}
+use mathlib.Core.Path.{_≡_, sym, ap, _∙_, subst}
+use mathlib.Core.Bool.{not}
 use mathlib.Core.List.{List}
-use borrow.Author.Tests.{not-true, not-false, ltb-false}
+use borrow.Author.Tests.{not-false, ltb-false}
 use lib.Dec.{ltb}
 use lib.ListN.{length}
 use Rattle.plan.specs.Plan.{slotsIn, vertexCountIn, polygonCountIn, laid}
-use Rattle.plan.proofs.Laws.{laid-slots, laid-vertices, laid-polygons}
-use Rattle.stored.specs.Stored.{Floor, recordIn, polygonsOf, polygonsIn, floorOf, floorIn, VerticesPlanned, PolygonsPlanned}
+use Rattle.plan.proofs.Laws.{laid-slots, laid-vertices}
+use Rattle.stored.specs.Stored.{Floor, recordIn, polygonsOf, polygonsIn, floorOf, VerticesPlanned, PolygonsPlanned}
 use Rattle.stored.proofs.Records.{polygon-read, polygons-counted, vertex-count}
 use Rattle.faults.specs.Tests.{lengthRight}
 use Rattle.faults.specs.Accepted.{Corners}
@@ -21,7 +21,7 @@ use Rattle.floor.specs.declared.FloorLook.{FloorLook}
 use Rattle.floor.specs.declared.FloorLook.the-variants.{Accepted as Sound, Faulty}
 use Rattle.floor.specs.declared.Refusal.the-variants.{VertexLength, PolygonLength, Vertex, Corners as CornersFault}
 use Rattle.floor.specs.Look.{badVertex, badCorners, recordsLookOf, cornersLookOf, linksLookOf, floorLookOf, laidAfter, planIf, planAfter}
-use Rattle.floor.specs.Exactly.{Lists, CornersRight, FloorCase}
+use Rattle.floor.specs.Exactly.{Lists, CornersRight}
 use Rattle.floor.proofs.Exact.{when, whole-decided, corners-told, floor-exactly}
 
 module _ (s : ℕ) (vs ps : List ℕ) where

@@ -8,7 +8,7 @@ use Rattle.told.specs.Told.{numberOf, valuesOf}
 use Rattle.floor.specs.declared.Look.{Look}
 use Rattle.floor.specs.declared.Look.the-variants.{Inside, Refused as LookRefused}
 use Rattle.stored.specs.Stored.{Floor, floorOf, questionOf}
-use Rattle.floor.specs.Look.{askOf, lookOf, refusalTold}
+use Rattle.floor.specs.Look.{lookOf, refusalTold}
 use Rattle.route.specs.declared.Judged.{Judged}
 use Rattle.route.specs.declared.Judged.the-variants.{Accepted, NotEnd}
 use Rattle.route.specs.Record.{recordAt, endBytes}
@@ -37,10 +37,6 @@ judgeIf (LookRefused refusal) judged = Refused refusal
 -- "then 20, then records in order", start and goal being in these polygons
 abbrev pub judgedIn : Floor → List ℕ → List ℕ → ℕ → ℕ → Judged
 judgedIn f question route from to = judgeOf (worldIn f (tripOf (questionOf question) from to)) route
-
--- 7 to 9, of a floor that was accepted, and the route file
-unfoldable pub judgedOn : Floor → List ℕ → List ℕ → Verdict
-judgedOn f question route = judgeIf (askOf f question) (judgedIn f question route)
 
 -- 2 to 9, and the route file
 unfoldable pub verdictOf : ℕ → List ℕ → List ℕ → List ℕ → List ℕ → Verdict

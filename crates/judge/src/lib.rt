@@ -9,8 +9,7 @@ ghost use Rattle.stored.specs.Stored.{floorIn};
 ghost use Rattle.edges.specs.Ground.{Ground};
 ghost use Rattle.route.specs.Judge.{judgeOf};
 ghost use Rattle.steps.specs.World.{worldIn};
-ghost use Rattle.judge.specs.Verdict.{endOf, judgedOn, verdictOf, verdictTold};
-use floor::FloorLook;
+ghost use Rattle.judge.specs.Verdict.{endOf, verdictOf, verdictTold};
 use floor::Look;
 use floor::Refusal;
 use plan::PLAN;
@@ -79,37 +78,18 @@ pub fn judge_route(
     judge_end(trip, node, route, last)
 }
 
-// One question and one route file of a floor that was accepted, by its plan.
-pub fn judge_on(
-    vertices: &[u8],
-    polygons: &[u8],
-    plan: &[u32; PLAN],
-    question: &[u8],
-    route: &[u8],
-) -> Verdict
-    requires { ⌜ Ground (now plan) (now vertices) (now polygons) ⌝ }
-    ensures { λ r.
-        let f = floorIn (now (plan .entry)) (now (vertices .entry)) (now (polygons .entry)) in
-        ⌜ r ≡ judgedOn f (now (question .entry)) (now (route .entry)) ⌝ }
-{
-    match floor::ask(vertices, polygons, plan, question) {
-        Look::Inside(from, to) => {
-            let trip = Trip::of(question, from as u32, to as u32);
-            let judged = judge_route(vertices, polygons, plan, trip, route);
-            Verdict::Read(judged)
-        }
-        Look::Refused(refusal) => Verdict::Refused(refusal),
-    }
-}
-
 // 2 to 9, then 20, then the records in order. Nothing is asked of the caller.
 pub fn judge(vertices: &[u8], polygons: &[u8], question: &[u8], route: &[u8]) -> Verdict
     ensures { λ r. ⌜ r ≡ verdictOf 8 (now (vertices .entry)) (now (polygons .entry)) (now (question .entry)) (now (route .entry)) ⌝ }
 {
     let mut plan = [0u32; PLAN];
-    match floor::look_at_floor(vertices, polygons, &mut plan) {
-        FloorLook::Accepted => judge_on(vertices, polygons, &plan, question, route),
-        FloorLook::Faulty(refusal) => Verdict::Refused(refusal),
+    match floor::look_with(vertices, polygons, question, &mut plan) {
+        Look::Inside(from, to) => {
+            let trip = Trip::of(question, from as u32, to as u32);
+            let judged = judge_route(vertices, polygons, &plan, trip, route);
+            Verdict::Read(judged)
+        }
+        Look::Refused(refusal) => Verdict::Refused(refusal),
     }
 }
 

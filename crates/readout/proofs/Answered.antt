@@ -8,14 +8,11 @@ use lib.ListN.{length}
 use lib.Seq.{sets}
 use Rattle.point.specs.declared.Point.{Point}
 use Rattle.floor.specs.declared.Refusal.{Refusal}
-use Rattle.floor.specs.declared.FloorLook.{FloorLook}
-use Rattle.floor.specs.declared.FloorLook.the-variants.{Accepted as Sound, Faulty}
 use Rattle.floor.specs.declared.Look.{Look}
 use Rattle.floor.specs.declared.Look.the-variants.{Inside, Refused as LookRefused}
-use Rattle.stored.specs.Stored.{Floor, floorOf, floorIn, questionOf}
-use Rattle.edges.specs.Ground.{Ground}
-use Rattle.floor.specs.Look.{floorLookOf, askOf}
-use Rattle.floor.proofs.Asking.{asked-inside}
+use Rattle.stored.specs.Stored.{floorOf, floorIn, questionOf}
+use Rattle.floor.specs.Look.{lookOf}
+use Rattle.floor.proofs.Asking.{Looked}
 use Rattle.route.specs.declared.Judged.{Judged}
 use Rattle.route.specs.declared.Judged.the-variants.{Accepted, Length, NotSeed, NotStep, NotEnd}
 use Rattle.route.specs.World.{World}
@@ -27,10 +24,10 @@ use Rattle.judge.specs.declared.Verdict.{Verdict}
 use Rattle.judge.specs.declared.Verdict.the-variants.{Refused, Read}
 use Rattle.readout.specs.declared.Readout.{Readout}
 use Rattle.readout.specs.declared.Readout.the-variants.{Refused as Unread, Short, Listed}
-use Rattle.judge.specs.Verdict.{judgedOn}
+use Rattle.judge.specs.Verdict.{verdictOf}
 use Rattle.readout.specs.Points.{pointsOf}
-use Rattle.readout.specs.Readout.{floatsOf, listed, listing, answerIf, outIf, routePoints, readoutOn, writtenOn, readoutOf, writtenOf}
-use Rattle.judge.proofs.Looking.{judges-inside, judges-floor, judges-faulty}
+use Rattle.readout.specs.Readout.{floatsOf, listed, listing, answerIf, outIf, routePoints, readoutOf, writtenOf}
+use Rattle.judge.proofs.Looking.{judges-inside, judges-refused}
 
 module _ (points : List Point) (out : List Float) (count : ℕ) (e : count ≡ length points) where
   pub short-is : length out < count * 2 → (Short ≡ listed points out) × (out ≡ listing points out)
@@ -65,59 +62,39 @@ module _ (x : Judged) (points : List Point) (out : List Float) where
   pub read-end : (i : ℕ) → x ≡ NotEnd i → (Unread (Read (NotEnd i)) ≡ answerIf (Read x) points out) × (out ≡ outIf (Read x) points out)
   read-end i e = (rw e, rw e)
 
--- ---- the question
+-- ---- behind the door
 
-module _ {plan vs ps : List ℕ} (g : Ground plan vs ps) (question route : List ℕ) (out : List Float)
-    {look : Look} (asked : look ≡ askOf (floorIn plan vs ps) question) where
-  abbrev f : Floor
-  f = floorIn plan vs ps
-
+module _ (slots : ℕ) (vs ps question route : List ℕ) (out : List Float) {look : Look} (looked : look ≡ lookOf slots vs ps question) where
   pub reads-refused : {r : Refusal} → look ≡ LookRefused r
-      → (Unread (Refused r) ≡ readoutOn f question route out) × (out ≡ writtenOn f question route out)
-  unfolding readoutOn writtenOn judgedOn
-  reads-refused e = (rw (← asked, e), rw (← asked, e))
-
-  module _ {from to : ℕ} (e : look ≡ Inside from to) {trip : Trip} (t : trip ≡ tripOf (questionOf question) from to) where
-    abbrev w : World Node
-    w = worldIn f trip
-
-    same-verdict : Read (judgeOf w route) ≡ judgedOn f question route
-    same-verdict = judges-inside f question route asked e t refl
-
-    same-world : w ≡ worldOf f (questionOf question)
-    unfolding worldOf
-    same-world =
-        let h = asked-inside g question (sym asked ∙ e) in
-        ap (worldIn f) t ∙ ap₂ (λ (x y : ℕ). worldIn f (tripOf (questionOf question) x y)) (sym (h .from-is)) (sym (h .to-is))
-
-    same-points : pointsOf w (trip .goal) route ≡ routePoints f question route
-    unfolding routePoints
-    same-points = ap₂ (λ (x : World Node) (y : Point). pointsOf x y route) same-world (ap (λ (x : Trip). x .goal) t)
-
-    pub reads-inside : {r : Readout} {out' : List Float}
-        → let said = Read (judgeOf w route) in let points = pointsOf w (trip .goal) route in
-        (r ≡ answerIf said points out) × (out' ≡ outIf said points out)
-        → (r ≡ readoutOn f question route out) × (out' ≡ writtenOn f question route out)
-    unfolding readoutOn writtenOn
-    reads-inside h = (
-      h .0 ∙ ap₂ (λ (v : Verdict) (x : List Point). answerIf v x out) same-verdict same-points,
-      h .1 ∙ ap₂ (λ (v : Verdict) (x : List Point). outIf v x out) same-verdict same-points,
-    )
-
--- ---- the floor
-
-module _ (slots : ℕ) (vs ps question route : List ℕ) (out : List Float) {look : FloorLook} (looked : look ≡ floorLookOf slots vs ps) where
-  pub reads-floor : look ≡ Sound → {r : Readout} {out' : List Float} {s : ℕ} → s ≡ slots
-      → (r ≡ readoutOn (floorOf s vs ps) question route out) × (out' ≡ writtenOn (floorOf s vs ps) question route out)
-      → (r ≡ readoutOf slots vs ps question route out) × (out' ≡ writtenOf slots vs ps question route out)
-  unfolding readoutOn writtenOn readoutOf writtenOf
-  reads-floor e s h =
-      let v = judges-floor slots vs ps question route looked e s refl in (
-        h .0 ∙ rw (s) (ap (λ (x : Verdict). answerIf x (routePoints (floorOf slots vs ps) question route) out) (rw s at v)),
-        h .1 ∙ rw (s) (ap (λ (x : Verdict). outIf x (routePoints (floorOf slots vs ps) question route) out) (rw s at v)),
-      )
-
-  pub reads-faulty : {r : Refusal} → look ≡ Faulty r
       → (Unread (Refused r) ≡ readoutOf slots vs ps question route out) × (out ≡ writtenOf slots vs ps question route out)
   unfolding readoutOf writtenOf
-  reads-faulty e = let v = judges-faulty slots vs ps question route looked e in (rw (← v), rw (← v))
+  reads-refused e = let v = judges-refused slots vs ps question route looked e in (rw (← v), rw (← v))
+
+  module _ {plan : List ℕ} {from to : ℕ} (e : look ≡ Inside from to) (h : Looked slots plan vs ps question from to) {trip : Trip}
+      (t : trip ≡ tripOf (questionOf question) from to) where
+    abbrev w : World Node
+    w = worldIn (floorIn plan vs ps) trip
+
+    same-verdict : Read (judgeOf w route) ≡ verdictOf slots vs ps question route
+    same-verdict = judges-inside slots vs ps question route looked e (h .slots-are) t refl
+
+    same-world : w ≡ worldOf (floorIn plan vs ps) (questionOf question)
+    unfolding worldOf
+    same-world =
+        ap (worldIn (floorIn plan vs ps)) t
+        ∙ ap₂ (λ (x y : ℕ). worldIn (floorIn plan vs ps) (tripOf (questionOf question) x y)) (sym (h .asking .from-is)) (sym (h .asking .to-is))
+
+    same-points : pointsOf w (trip .goal) route ≡ routePoints (floorOf slots vs ps) question route
+    unfolding routePoints
+    same-points =
+        ap₂ (λ (x : World Node) (y : Point). pointsOf x y route) same-world (ap (λ (x : Trip). x .goal) t)
+        ∙ ap (λ (k : ℕ). pointsOf (worldOf (floorOf k vs ps) (questionOf question)) (questionOf question .goal) route) (h .slots-are)
+
+    pub reads-inside : {r : Readout} {out' : List Float}
+        → (r ≡ answerIf (Read (judgeOf w route)) (pointsOf w (trip .goal) route) out) × (out' ≡ outIf (Read (judgeOf w route)) (pointsOf w (trip .goal) route) out)
+        → (r ≡ readoutOf slots vs ps question route out) × (out' ≡ writtenOf slots vs ps question route out)
+    unfolding readoutOf writtenOf
+    reads-inside j = (
+      j .0 ∙ ap₂ (λ (v : Verdict) (x : List Point). answerIf v x out) same-verdict same-points,
+      j .1 ∙ ap₂ (λ (v : Verdict) (x : List Point). outIf v x out) same-verdict same-points,
+    )

@@ -20,7 +20,7 @@ use Rattle.judge.specs.declared.Verdict.{Verdict}
 use Rattle.judge.specs.declared.Verdict.the-variants.{Refused, Read}
 use Rattle.readout.specs.declared.Readout.{Readout}
 use Rattle.readout.specs.declared.Readout.the-variants.{Refused as Unread, Short, Listed}
-use Rattle.judge.specs.Verdict.{judgedOn, verdictOf, verdictTold}
+use Rattle.judge.specs.Verdict.{verdictOf, verdictTold}
 use Rattle.readout.specs.Points.{pointsOf}
 
 -- ---- points in a slice: x, y of each
@@ -65,14 +65,6 @@ outIf (Refused refusal) points out = out
 -- the points of the route in the floor's world
 unfoldable pub routePoints : Floor → List ℕ → List ℕ → List Point
 routePoints f question route = pointsOf (worldOf f (questionOf question)) (questionOf question .goal) route
-
--- one question of a floor that was accepted
-module _ (f : Floor) (question route : List ℕ) (out : List Float) where
-  unfoldable pub readoutOn : Readout
-  readoutOn = answerIf (judgedOn f question route) (routePoints f question route) out
-
-  unfoldable pub writtenOn : List Float
-  writtenOn = outIf (judgedOn f question route) (routePoints f question route) out
 
 module _ (slots : ℕ) (vertices polygons question route : List ℕ) (out : List Float) where
   unfoldable pub readoutOf : Readout

@@ -15,8 +15,7 @@ ghost use Rattle.judge.specs.declared.Verdict.the-variants.{Read};
 ghost use Rattle.readout.specs.Points.{lastPoints, pointsOf};
 ghost use Rattle.readout.specs.ReadOff.{pointsRead, Readable};
 ghost use Rattle.readout.specs.Readout.{floatsOf, putPoint, putRoot, listed, listing, answerIf, outIf};
-ghost use Rattle.readout.specs.Readout.{readoutOn, writtenOn, readoutOf, writtenOf, readoutTold};
-use floor::FloorLook;
+ghost use Rattle.readout.specs.Readout.{readoutOf, writtenOf, readoutTold};
 use floor::Look;
 use helpers::Turn;
 use judge::Verdict;
@@ -152,32 +151,6 @@ fn read_route(
     }
 }
 
-// One question and one route file of a floor that was accepted, by its plan.
-pub fn read_on(
-    vertices: &[u8],
-    polygons: &[u8],
-    plan: &[u32; PLAN],
-    question: &[u8],
-    route: &[u8],
-    points: &mut [f32],
-) -> Readout
-    requires { ⌜ Ground (now plan) (now vertices) (now polygons) ⌝ }
-    ensures { λ r.
-        let f = floorIn (now (plan .entry)) (now (vertices .entry)) (now (polygons .entry)) in
-        ⌜ r ≡ readoutOn f (now (question .entry)) (now (route .entry)) (now (points .entry)) ⌝ }
-    ensures { λ _.
-        let f = floorIn (now (plan .entry)) (now (vertices .entry)) (now (polygons .entry)) in
-        ⌜ now (points .exit) ≡ writtenOn f (now (question .entry)) (now (route .entry)) (now (points .entry)) ⌝ }
-{
-    match floor::ask(vertices, polygons, plan, question) {
-        Look::Inside(from, to) => {
-            let trip = Trip::of(question, from as u32, to as u32);
-            read_route(vertices, polygons, plan, trip, route, points)
-        }
-        Look::Refused(refusal) => Readout::Refused(Verdict::Refused(refusal)),
-    }
-}
-
 // Judges, then lists the points of an accepted route into the slice: x and y of each. Exactly their places change, and nothing
 // where the answer is another than 0.
 pub fn read_out(
@@ -193,9 +166,12 @@ pub fn read_out(
         ⌜ now (points .exit) ≡ writtenOf 8 (now (vertices .entry)) (now (polygons .entry)) (now (question .entry)) (now (route .entry)) before ⌝ }
 {
     let mut plan = [0u32; PLAN];
-    match floor::look_at_floor(vertices, polygons, &mut plan) {
-        FloorLook::Accepted => read_on(vertices, polygons, &plan, question, route, points),
-        FloorLook::Faulty(refusal) => Readout::Refused(Verdict::Refused(refusal)),
+    match floor::look_with(vertices, polygons, question, &mut plan) {
+        Look::Inside(from, to) => {
+            let trip = Trip::of(question, from as u32, to as u32);
+            read_route(vertices, polygons, &plan, trip, route, points)
+        }
+        Look::Refused(refusal) => Readout::Refused(Verdict::Refused(refusal)),
     }
 }
 

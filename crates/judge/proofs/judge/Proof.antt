@@ -1,46 +1,62 @@
 -- `judge` meets its contract. Assumes nothing.
+use Prim.Native.Nat.{ℕ, _<_}
+use native.Mathlib.Omega.{arith}
 use borrow.Author.Needs.{needs}
 use denote.Ref.{now}
-use mathlib.Core.Path.{_≡_, sym, _∙_}
+use mathlib.Core.Path.{sym, ap, _∙_, subst}
+use mathlib.Core.List.{List}
 use lib.Dec.{lit<, lit≤}
-use Rattle.floor.specs.declared.FloorLook.the-variants.{Accepted as Sound}
-use Rattle.floor.specs.Look.{floorLookOf}
-use Rattle.floor.proofs.Planned.{slots-are, grounded}
-use Rattle.judge.proofs.Looking.{judges-floor, judges-faulty}
+use Rattle.plan.specs.Plan.{polygonCountIn}
+use Rattle.floor.proofs.Asking.{Looked, looked-inside}
+use Rattle.steps.specs.declared.Trip.{Trip}
+use Rattle.judge.proofs.Looking.{judges-inside, judges-refused}
 use Rattle.judge.proofs.judge.Statement.{statement}
 use Rattle.judge.proofs.judge.Tie as tie
 
 -- ---- places
 
-abbrev start : tie.After-look-at-floor → tie.Start
+abbrev start : tie.After-look-with → tie.Start
 start c = c .before .before .before .before .before .before
 
--- behind the look at a floor that is accepted
-abbrev looked : tie.After-enum-told → tie.After-look-at-floor
-looked c = c .before .before
+-- behind the look
+abbrev looking : tie.After-known-told → tie.After-look-with
+looking c = c .before .before .before
 
-sound : (c : tie.After-enum-told) → let s = start (looked c) in floorLookOf 8 (now (s .args .vertices)) (now (s .args .polygons)) ≡ Sound
-sound c = sym (looked c .look-at-floor .ensures .0) ∙ c .enum-told .given .1
+-- the plan that the look has left
+abbrev plan : tie.After-look-with → List ℕ
+plan c = c .look-with .last .1 .1 .1 .0
 
--- ---- accepted
+known : (c : tie.After-known-told) → let s = start (looking c) in
+    Looked 8 (plan (looking c)) (now (s .args .vertices)) (now (s .args .polygons)) (now (s .args .question))
+    (c .before .from .given .0 .0) (c .before .from .given .0 .1 .0)
+known c =
+    let look = looking c .look-with in
+    looked-inside 8 _ _ _ (lit< tt) (lit≤ tt) (sym (look .ensures .0) ∙ c .before .from .given .1) _ (look .ensures .1)
 
-judge-on-requires : tie.Need-judge-on-requires
-judge-on-requires c κs =
-    let told = c .before in
-    grounded 8 _ _ (lit< tt) (lit≤ tt) (sound told) _ (looked told .look-at-floor .ensures .1)
+-- ---- inside
+
+judge-route-requires : tie.Need-judge-route-requires
+judge-route-requires c κs =
+    let tripped = c .before in
+    let h = known (tripped .before) in
+    let from-is = sym (ap (λ (t : Trip). t .from) (tripped .of .ensures)) in
+    (h .ground, subst (λ (n : ℕ). n < polygonCountIn (plan (looking (tripped .before)))) from-is (h .asking .from-listed))
 
 returns : tie.Need-returns
 returns c =
-    let told = c .before .before in
-    let look = looked told .look-at-floor in
-    judges-floor 8 _ _ _ _ (look .ensures .0) (told .enum-told .given .1) (slots-are 8 _ _ (lit< tt) (lit≤ tt) (sound told) _ (look .ensures .1))
-    (c .judge-on .ensures)
+    let tripped = c .before .before in
+    let told = tripped .before in
+    judges-inside 8 _ _ _ _ (looking told .look-with .ensures .0) (told .before .from .given .1) (known told .slots-are) (tripped .of .ensures)
+    (c .judge-route .ensures)
 
--- ---- at fault
+-- ---- refused
 
 returns-2 : tie.Need-returns-2
-returns-2 c = let faulty = c .before in judges-faulty 8 _ _ _ _ (faulty .before .before .look-at-floor .ensures .0) (faulty .refusal .given .1)
+returns-2 c = judges-refused 8 _ _ _ _ (c .before .before .before .look-with .ensures .0) (c .before .refusal .given .1)
 
 pub judge-spec : {M : Type 1} → statement M
 judge-spec =
-    tie.close (tie.spec (λ c κs. search needs) (λ c. search needs) judge-on-requires (λ c. search needs) returns returns-2)
+    tie.close
+    (tie.spec (λ c κs. search needs) (λ c. search needs) (λ c. let h = known c .asking in omega (arith, h .from-listed, h .few))
+    (λ c. let h = known c .asking in omega (arith, h .to-listed, h .few)) (λ c κs. known c .asking .long) judge-route-requires (λ c. search needs) returns
+    returns-2)

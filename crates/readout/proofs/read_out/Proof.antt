@@ -1,51 +1,65 @@
 -- `read_out` meets its contract. Assumes nothing.
+use Prim.Native.Nat.{ℕ, _<_}
+use native.Mathlib.Omega.{arith}
 use borrow.Author.Needs.{needs}
 use denote.Ref.{now}
-use mathlib.Core.Path.{_≡_, sym, _∙_}
+use mathlib.Core.Path.{sym, ap, _∙_, subst}
+use mathlib.Core.List.{List}
 use lib.Dec.{lit<, lit≤}
-use Rattle.floor.specs.declared.FloorLook.the-variants.{Accepted as Sound}
-use Rattle.floor.specs.Look.{floorLookOf}
-use Rattle.floor.proofs.Planned.{slots-are, grounded}
-use Rattle.readout.proofs.Answered.{reads-floor, reads-faulty}
+use Rattle.plan.specs.Plan.{polygonCountIn}
+use Rattle.floor.proofs.Asking.{Looked, looked-inside}
+use Rattle.steps.specs.declared.Trip.{Trip}
+use Rattle.readout.proofs.Answered.{reads-inside, reads-refused}
 use Rattle.readout.proofs.read_out.Statement.{statement}
 use Rattle.readout.proofs.read_out.Tie as tie
 
 -- ---- places
 
-abbrev start : tie.After-look-at-floor → tie.Start
+abbrev start : tie.After-look-with → tie.Start
 start c = c .before .before .before .before .before .before .before
 
--- behind the look at a floor that is accepted
-abbrev looked : tie.After-enum-told → tie.After-look-at-floor
-looked c = c .before .before
+-- behind the look
+abbrev looking : tie.After-known-told → tie.After-look-with
+looking c = c .before .before .before
 
--- behind the read-out, and before it
-abbrev planned : tie.After-read-on-arg → tie.After-enum-told
-planned c = c .before .before
+-- the plan that the look has left
+abbrev plan : tie.After-look-with → List ℕ
+plan c = c .look-with .last .1 .1 .1 .0
 
-sound : (c : tie.After-enum-told) → let s = start (looked c) in floorLookOf 8 (now (s .args .vertices)) (now (s .args .polygons)) ≡ Sound
-sound c = sym (looked c .look-at-floor .ensures .0) ∙ c .enum-told .given .1
+known : (c : tie.After-known-told) → let s = start (looking c) in
+    Looked 8 (plan (looking c)) (now (s .args .vertices)) (now (s .args .polygons)) (now (s .args .question))
+    (c .before .from .given .0 .0) (c .before .from .given .0 .1 .0)
+known c =
+    let look = looking c .look-with in
+    looked-inside 8 _ _ _ (lit< tt) (lit≤ tt) (sym (look .ensures .0) ∙ c .before .from .given .1) _ (look .ensures .1)
 
--- ---- accepted
+-- ---- inside
 
-read-on-requires : tie.Need-read-on-requires
-read-on-requires c κs =
-    let told = planned c in
-    grounded 8 _ _ (lit< tt) (lit≤ tt) (sound told) _ (looked told .look-at-floor .ensures .1)
+abbrev tripping : tie.After-read-route-arg → tie.After-of
+tripping c = c .before .before
+
+read-route-requires : tie.Need-read-route-requires
+read-route-requires c κs =
+    let tripped = tripping c in
+    let h = known (tripped .before) in
+    let from-is = sym (ap (λ (t : Trip). t .from) (tripped .of .ensures)) in
+    (h .ground, subst (λ (n : ℕ). n < polygonCountIn (plan (looking (tripped .before)))) from-is (h .asking .from-listed))
 
 returns : tie.Need-returns
 returns c =
     let read = c .before .before in
-    let told = planned (read .before) in
-    let look = looked told .look-at-floor in
-    reads-floor 8 _ _ _ _ _ (look .ensures .0) (told .enum-told .given .1) (slots-are 8 _ _ (lit< tt) (lit≤ tt) (sound told) _ (look .ensures .1))
-    (read .read-on .ensures)
+    let tripped = tripping (read .before) in
+    let told = tripped .before in
+    reads-inside 8 _ _ _ _ _ (looking told .look-with .ensures .0) (told .before .from .given .1) (known told) (tripped .of .ensures) (read .read-route .ensures)
 
--- ---- at fault
+-- ---- refused
 
 returns-2 : tie.Need-returns-2
-returns-2 c = let faulty = c .before in reads-faulty 8 _ _ _ _ _ (faulty .before .before .look-at-floor .ensures .0) (faulty .refusal .given .1)
+returns-2 c = reads-refused 8 _ _ _ _ _ (c .before .before .before .look-with .ensures .0) (c .before .refusal .given .1)
 
 pub read-out-spec : {M : Type 1} → statement M
 read-out-spec =
-    tie.close (tie.spec (λ c κs. search needs) (λ c. search needs) read-on-requires (λ c. search needs) (λ c. search needs) returns returns-2)
+    tie.close
+    (tie.spec (λ c κs. search needs) (λ c. search needs) (λ c. let h = known c .asking in omega (arith, h .from-listed, h .few))
+    (λ c. let h = known c .asking in omega (arith, h .to-listed, h .few)) (λ c κs. known c .asking .long) read-route-requires (λ c. search needs)
+    (λ c. search needs) returns returns-2)
