@@ -8,15 +8,16 @@ use Rattle.search.proofs.route_between.Tie as tie
 
 -- ---- places
 
-abbrev start : tie.After-places-in → tie.Start
-start c = c .before .before .before .before .before .before .before .before .before .before
+-- where the places were counted, and there are some
+abbrev counted : tie.Else1 → tie.After-places-in
+counted c = c .before
 
 -- behind the route, and before it
 abbrev routed : tie.After-slice-known8 → tie.After-route-from
 routed c = c .before .before .before .before .before .before .before .before
 
-abbrev counted : tie.After-route-from → tie.Else1
-counted c = c .before .before .before .before .before
+abbrev some : tie.After-route-from-arg4 → tie.Else1
+some c = c .before .before .before .before
 
 -- ---- no place
 
@@ -27,15 +28,14 @@ returns c = between-none _ _ _ _ _ (c .before .places-in .ensures) (c .if1 .take
 
 route-from-requires : tie.Need-route-from-requires
 route-from-requires c κs =
-    let at-if1 = c .before .before .before .before in
-    let s = start (at-if1 .before) in
-    ((s .pre .0, s .pre .1), ((places-room _ (at-if1 .before .places-in .ensures), omega (arith, at-if1 .if1 .left)), s .pre .2))
+    let room = places-room _ (counted (some c) .places-in .ensures) in
+    ((search needs, search needs), ((room, omega (arith, some c .if1 .left)), search needs))
 
 returns-2 : tie.Need-returns-2
 returns-2 c =
-    let at-route = routed c in
-    let at-if1 = counted at-route in
-    between-on _ _ _ _ _ (at-if1 .before .places-in .ensures) (at-if1 .if1 .left) (at-route .route-from .ensures)
+    let route = routed c in
+    let by = some (route .before) in
+    between-on _ _ _ _ _ (counted by .places-in .ensures) (by .if1 .left) (route .route-from .ensures)
 
 pub route-between-spec : {M : Type 1} → statement M
 route-between-spec =

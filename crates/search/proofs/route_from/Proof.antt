@@ -7,43 +7,45 @@ use Rattle.search.proofs.route_from.Tie as tie
 
 -- ---- places
 
-abbrev start : tie.After-struct-known → tie.Start
-start c = c .before .before .before .before .before .before .before .before
+-- in two polygons, then behind the search between them, then before its answer is told
+abbrev apart : tie.After-search-from-arg3 → tie.Else1
+apart c = c .before .before .before
 
--- behind the search, and before it
 abbrev searched : tie.After-slice-known8 → tie.After-search-from
 searched c = c .before .before .before .before .before .before
 
-abbrev apart : tie.After-search-from → tie.Else1
-apart c = c .before .before .before .before
+abbrev telling : tie.After-tell-arg3 → tie.After-search-from
+telling c = searched (c .before .before .before)
+
+abbrev start : tie.Else1 → tie.Start
+start c = c .before .before .before .before .before .before .before .before .before
 
 -- ---- one polygon
 
 returns : tie.Need-returns
 returns c =
-    let at-write = c .before .before in
-    let at-if1 = at-write .before .before in
-    routes-straight _ _ _ _ _ (at-if1 .if1 .taken) (at-write .write-straight .ensures .0) (at-write .write-straight .ensures .1)
+    let written = c .before .before in
+    let one = written .before .before in
+    routes-straight _ _ _ _ _ (one .if1 .taken) (written .write-straight .ensures .0) (written .write-straight .ensures .1)
 
 -- ---- a search
 
 search-from-requires : tie.Need-search-from-requires
 search-from-requires c κs =
-    let at-if1 = c .before .before .before in
-    let s = start (at-if1 .before) in
-    (s .pre .0 .0, (s .pre .1 .0, (s .pre .0 .1, ne-eqb _ _ (at-if1 .if1 .left), s .pre .1 .1)))
+    let h = start (apart c) .pre in
+    (h .0 .0, (h .1 .0, (h .0 .1, ne-eqb _ _ (apart c .if1 .left), h .1 .1)))
 
 tell-requires : tie.Need-tell-requires
 tell-requires c κs =
-    let at-search = searched (c .before .before .before) in
-    let s = start (apart at-search .before) in
-    routes-told _ _ _ _ _ _ (s .pre .0 .0) (s .pre .1 .0 .0) (s .pre .1 .0 .1) (s .pre .0 .1) _ (at-search .search-from .ensures)
+    let by = telling c in
+    let h = start (apart (by .before)) .pre in
+    routes-told _ _ _ _ _ _ (h .0 .0) (h .1 .0 .0) (h .1 .0 .1) (h .0 .1) _ (by .search-from .ensures)
 
 returns-2 : tie.Need-returns-2
 returns-2 c =
-    let at-tell = c .before .before in
-    let at-search = searched (at-tell .before .before .before .before) in
-    routes-search _ _ _ _ _ (apart at-search .if1 .left) _ (at-search .search-from .ensures) (at-tell .tell .ensures .0 _) (at-tell .tell .ensures .1 _)
+    let told = c .before .before in
+    let by = telling (told .before) in
+    routes-search _ _ _ _ _ (apart (by .before) .if1 .left) _ (by .search-from .ensures) (told .tell .ensures .0 _) (told .tell .ensures .1 _)
 
 pub route-from-spec : {M : Type 1} → statement M
 route-from-spec =
