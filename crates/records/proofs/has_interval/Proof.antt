@@ -1,3 +1,4 @@
+-- `records::has_interval` meets its contract: each return is its definition's case, by the test and by what its callees ensure. Assumes nothing.
 use borrow.Author.Needs.{needs}
 use Rattle.records.specs.Records.{intervalStands}
 use Rattle.records.proofs.has_interval.Statement.{statement}
@@ -6,15 +7,12 @@ use Rattle.records.proofs.has_interval.Tie as tie
 returns : tie.Need-returns
 unfolding intervalStands
 returns c =
-    let c1 = c .before in
-    let c2 = c1 .before in
-    rw (← c2 .is-point .ensures, c1 .if1 .taken, ← c .is-point2 .ensures)
+    let right = c .before in
+    rw (← right .before .is-point .ensures, right .if1 .taken, ← c .is-point2 .ensures)
 
 returns-2 : tie.Need-returns-2
 unfolding intervalStands
-returns-2 c =
-    let c1 = c .before in
-    rw (← c1 .is-point .ensures, c .if1 .left)
+returns-2 c = rw (← c .before .is-point .ensures, c .if1 .left)
 
 pub has-interval-spec : {M : Type 1} → statement M
 has-interval-spec =

@@ -1,7 +1,5 @@
-use borrow.Author.Tests.{eq-eqb}
-use borrow.Author.Tests.{le-leb}
-use borrow.Author.Tests.{lt-leb}
-use borrow.Author.Tests.{ne-eqb}
+-- `records::length_right` meets its contract: each return is its definition's case, by the tests. Assumes nothing.
+use borrow.Author.Tests.{eq-eqb, le-leb, lt-leb, ne-eqb}
 use Rattle.route.specs.Record.{records}
 use Rattle.route.specs.Judge.{lengthRight}
 use Rattle.records.proofs.length_right.Statement.{statement}

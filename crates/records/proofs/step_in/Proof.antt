@@ -1,3 +1,4 @@
+-- `records::step_in` meets its contract by what its callees ensure. Assumes nothing.
 use borrow.Author.Needs.{needs}
 use Rattle.records.specs.Records.{stepIn}
 use Rattle.records.proofs.step_in.Statement.{statement}
@@ -6,13 +7,21 @@ use Rattle.records.proofs.step_in.Tie as tie
 returns : tie.Need-returns
 unfolding stepIn
 returns c =
-    let c1 = c .before in
-    let c2 = c1 .before in
-    let c3 = c2 .before in
-    let c4 = c3 .before in
-    let c5 = c4 .before in
-    let c6 = c5 .before in
-    rw (← c6 .kind-at .ensures, ← c5 .kind-in .ensures, ← c4 .point-in .ensures, ← c3 .point-in2 .ensures, ← c2 .polygon-at .ensures, ← c1 .first-at .ensures, ← c .second-at .ensures)
+    let first = c .before in
+    let polygon = first .before in
+    let left = polygon .before in
+    let right = left .before in
+    let kind = right .before in
+    let number = kind .before in
+    rw (
+      ← number .kind-at .ensures,
+      ← kind .kind-in .ensures,
+      ← right .point-in .ensures,
+      ← left .point-in2 .ensures,
+      ← polygon .polygon-at .ensures,
+      ← first .first-at .ensures,
+      ← c .second-at .ensures,
+    )
 
 pub step-in-spec : {M : Type 1} → statement M
 step-in-spec =

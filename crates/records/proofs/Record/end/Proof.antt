@@ -1,3 +1,4 @@
+-- `records::Record::end` meets its contract by what its callees ensure. Assumes nothing.
 use borrow.Author.Needs.{needs}
 use Rattle.route.specs.Record.{endWords}
 use Rattle.records.specs.Records.{endRecord}

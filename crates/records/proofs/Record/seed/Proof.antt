@@ -1,3 +1,4 @@
+-- `records::Record::seed` meets its contract by what its callees ensure. Assumes nothing.
 use borrow.Author.Needs.{needs}
 use Rattle.route.specs.Record.{seedWords}
 use Rattle.records.specs.Records.{seedRecord}

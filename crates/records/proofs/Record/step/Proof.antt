@@ -1,3 +1,4 @@
+-- `records::Record::step` meets its contract by what its callees ensure. Assumes nothing.
 use borrow.Author.Needs.{needs}
 use Rattle.route.specs.Record.{stepWords}
 use Rattle.records.specs.Records.{stepRecord}
