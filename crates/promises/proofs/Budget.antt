@@ -35,7 +35,8 @@ module _ (f : Floor) (t : Task) where
   empty-ends zero s e = rw e
   empty-ends (suc budget) s e = rw e
 
-  at-once : (more : ℕ) (s : State) (b : Bool) → eqb (leastIn (t .places) (s .work)) none ≡ b → (cond {A = Ending} b (ending s Emptied) (ending s Stopped) .finish ≡ Stopped → ⊥)
+  at-once : (more : ℕ) (s : State) (b : Bool) → eqb (leastIn (t .places) (s .work)) none ≡ b
+      → (cond {A = Ending} b (ending s Emptied) (ending s Stopped) .finish ≡ Stopped → ⊥)
       → run f t more s ≡ cond {A = Ending} b (ending s Emptied) (ending s Stopped)
   at-once more s true e h = empty-ends more s e
   at-once more s false e h = absurd (h refl)
@@ -49,13 +50,15 @@ module _ (f : Floor) (t : Task) where
       let e : suc budget + more ≡ suc (budget + more) = omega arith in
       rw e (go (step f t s .outcome) (step f t s .state) h (run-longer budget more))
     where
-      go : (o : Outcome) (u : State) → (onwards f t u o (run f t budget) .finish ≡ Stopped → ⊥) → ((v : State) → (run f t budget v .finish ≡ Stopped → ⊥) → run f t (budget + more) v ≡ run f t budget v)
+      go : (o : Outcome) (u : State) → (onwards f t u o (run f t budget) .finish ≡ Stopped → ⊥)
+          → ((v : State) → (run f t budget v .finish ≡ Stopped → ⊥) → run f t (budget + more) v ≡ run f t budget v)
           → onwards f t u o (run f t (budget + more)) ≡ onwards f t u o (run f t budget)
       go Goes u h next = next u h
       go (Ends finish) u h next = refl
 
   -- the same of a whole search
-  pub search-longer : (budget more : ℕ) (w : Work) → (searchedFrom f t budget w .finish ≡ Stopped → ⊥) → searchedFrom f t (budget + more) w ≡ searchedFrom f t budget w
+  pub search-longer : (budget more : ℕ) (w : Work) → (searchedFrom f t budget w .finish ≡ Stopped → ⊥)
+      → searchedFrom f t (budget + more) w ≡ searchedFrom f t budget w
   unfolding searchedFrom
   search-longer budget more w h = go (m .full) h
     where

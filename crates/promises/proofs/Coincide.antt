@@ -1,5 +1,5 @@
--- "Prove that any two permitted answers coincide": one statement for each function that users, programs or C call, over its contract itself (specs/Permits). `Post` is what
--- the contract permits; z is the answer and e the arguments at exit. Assumes nothing.
+-- "Prove that any two permitted answers coincide": one statement for each function that users, programs or C call, over its contract itself
+-- (specs/Permits). `Post` is what the contract permits; z is the answer and e the arguments at exit. Assumes nothing.
 use Prim.Native.Nat.{ℕ}
 use mathlib.Core.Path.{_≡_, sym, ap, _∙_}
 use mathlib.Core.List.{List}
@@ -63,10 +63,12 @@ seenOf s = (s .answer, s .work .floats, s .work .words, s .work .queue, s .out)
 
 -- ---- the search
 
-pub search-coincides : Coincide {S = SeenOfSearch} search.Post (λ z e. (z, e .1 .1 .1 .1 .0 .now, e .1 .1 .1 .1 .1 .0 .now, e .1 .1 .1 .1 .1 .1 .0 .now, e .1 .1 .1 .1 .1 .1 .1 .0 .now))
+pub search-coincides : Coincide {S = SeenOfSearch} search.Post
+    (λ z e. (z, e .1 .1 .1 .1 .0 .now, e .1 .1 .1 .1 .1 .0 .now, e .1 .1 .1 .1 .1 .1 .0 .now, e .1 .1 .1 .1 .1 .1 .1 .0 .now))
 search-coincides κs a z y e f p q = ap seenOf (p ∙ sym q)
 
-pub search-default-coincides : Coincide {S = SeenOfSearch} search-default.Post (λ z e. (z, e .1 .1 .1 .0 .now, e .1 .1 .1 .1 .0 .now, e .1 .1 .1 .1 .1 .0 .now, e .1 .1 .1 .1 .1 .1 .0 .now))
+pub search-default-coincides : Coincide {S = SeenOfSearch} search-default.Post
+    (λ z e. (z, e .1 .1 .1 .0 .now, e .1 .1 .1 .1 .0 .now, e .1 .1 .1 .1 .1 .0 .now, e .1 .1 .1 .1 .1 .1 .0 .now))
 search-default-coincides κs a z y e f p q = ap seenOf (p ∙ sym q)
 
 pub places-in-coincides : Coincide places-in.Post (λ z e. z)
@@ -125,7 +127,16 @@ cart-words-coincides κs a z y e f p q = pair (p .0 ∙ sym (q .0)) (p .1 ∙ sy
 abbrev seenInC : Handed → SeenInC
 seenInC h = (h .number, h .work .floats, h .work .words, h .work .queue, h .out, h .steps, h .value)
 
-pub cart-search-coincides : Coincide {S = SeenInC} cart-search.Post (λ z e. (z, e .1 .1 .1 .1 .0 .now, e .1 .1 .1 .1 .1 .0 .now, e .1 .1 .1 .1 .1 .1 .0 .now, e .1 .1 .1 .1 .1 .1 .1 .0 .now, e .1 .1 .1 .1 .1 .1 .1 .1 .0 .now, e .1 .1 .1 .1 .1 .1 .1 .1 .1 .0 .now))
+pub cart-search-coincides : Coincide {S = SeenInC} cart-search.Post
+    (λ z e. (
+      z,
+      e .1 .1 .1 .1 .0 .now,
+      e .1 .1 .1 .1 .1 .0 .now,
+      e .1 .1 .1 .1 .1 .1 .0 .now,
+      e .1 .1 .1 .1 .1 .1 .1 .0 .now,
+      e .1 .1 .1 .1 .1 .1 .1 .1 .0 .now,
+      e .1 .1 .1 .1 .1 .1 .1 .1 .1 .0 .now,
+    ))
 cart-search-coincides κs a z y e f p q = ap seenInC (p ∙ sym q)
 
 -- ---- for C: the floor and the steps

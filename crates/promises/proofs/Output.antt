@@ -1,5 +1,5 @@
--- A search looks at its output at the end alone: whatever output it is lent, it tells the same number with no route, or writes the same route if there is room. So 13
--- comes exactly where a route is longer than the room. Assumes nothing.
+-- A search looks at its output at the end alone: whatever output it is lent, it tells the same number with no route, or writes the same route if
+-- there is room. So 13 comes exactly where a route is longer than the room. Assumes nothing.
 use Prim.Native.Nat.{ℕ, _≤_, _<_}
 use native.Mathlib.Omega.{arith}
 use mathlib.Core.Path.{_≡_, refl, sym, ap, _∙_}
@@ -70,7 +70,8 @@ search-tells s vs ps question budget w = go (lookOf s vs ps question)
 
 -- ---- what is written
 
-written-fits : (bytes : List ℕ) (steps : ℕ) (out : List ℕ) → length bytes ≤ length out → written bytes steps out ≡ deliveredOf (Found steps (length bytes)) (bytes ++ drop (length bytes) out)
+written-fits : (bytes : List ℕ) (steps : ℕ) (out : List ℕ) → length bytes ≤ length out
+    → written bytes steps out ≡ deliveredOf (Found steps (length bytes)) (bytes ++ drop (length bytes) out)
 unfolding written
 written-fits bytes steps out l = rw (le-ltb (length out) (length bytes) l)
 
@@ -126,8 +127,10 @@ module _ (search : List ℕ → Searched) where
         go false l =
             let room = ltb-false (length out) (length bytes) l in
             let fits = ap (λ (x : Delivered). x .answer) (written-fits bytes counted out room) in
-            let same = found-parts counted (length bytes) steps n (sym fits ∙ told-is) in
-            (record { bytes = bytes; long = same .1; work = work; writes = λ o. h o ∙ ap (λ (k : ℕ). withWork work (written bytes k o)) (same .0) }, omega (arith, room, same .1))
+            let same = found-parts counted (length bytes) steps n (sym fits ∙ told-is) in (
+              record { bytes = bytes; long = same .1; work = work; writes = λ o. h o ∙ ap (λ (k : ℕ). withWork work (written bytes k o)) (same .0) },
+              omega (arith, room, same .1),
+            )
 
     -- an answer 13 has a route that does not
     pub short-tells : TellsTheSame search → (steps : ℕ) → search out .answer ≡ Short steps → Longer steps (length out) search
@@ -152,7 +155,10 @@ module _ (search : List ℕ → Searched) where
 
     -- and back
     pub route-fits : (steps n : ℕ) (r : Route steps n search) → n ≤ length out → search out ≡ searchedOf (Found steps n) (r .work) (r .bytes ++ drop n out)
-    route-fits steps n r l = r .writes out ∙ ap (withWork (r .work)) (written-fits (r .bytes) steps out (omega (arith, r .long, l)) ∙ ap (λ (k : ℕ). deliveredOf (Found steps k) (r .bytes ++ drop k out)) (r .long))
+    route-fits steps n r l =
+        r .writes out
+        ∙ ap (withWork (r .work))
+        (written-fits (r .bytes) steps out (omega (arith, r .long, l)) ∙ ap (λ (k : ℕ). deliveredOf (Found steps k) (r .bytes ++ drop k out)) (r .long))
 
     -- its bytes are the front of what is written
     pub route-front : (steps n : ℕ) (r : Route steps n search) → n ≤ length out → take n (search out .out) ≡ r .bytes
@@ -168,13 +174,17 @@ module _ (search : List ℕ → Searched) where
 
 pub short-exactly : (s : ℕ) (vs ps question : List ℕ) (budget : ℕ) (w : Work) → ShortExactly s vs ps question budget w
 short-exactly s vs ps question budget w out steps =
-    let search = searchOf s vs ps question budget w in
-    (short-tells search out (search-tells s vs ps question budget w) steps, λ r. ap (λ (x : Searched). x .answer) (route-lacks search out steps (r .size) (r .route) (r .more)))
+    let search = searchOf s vs ps question budget w in (
+      short-tells search out (search-tells s vs ps question budget w) steps,
+      λ r. ap (λ (x : Searched). x .answer) (route-lacks search out steps (r .size) (r .route) (r .more)),
+    )
 
 pub found-exactly : (s : ℕ) (vs ps question : List ℕ) (budget : ℕ) (w : Work) → FoundExactly s vs ps question budget w
 found-exactly s vs ps question budget w out steps n =
-    let search = searchOf s vs ps question budget w in
-    (found-tells search out (search-tells s vs ps question budget w) steps n, λ r. ap (λ (x : Searched). x .answer) (route-fits search out steps n (r .0) (r .1)))
+    let search = searchOf s vs ps question budget w in (
+      found-tells search out (search-tells s vs ps question budget w) steps n,
+      λ r. ap (λ (x : Searched). x .answer) (route-fits search out steps n (r .0) (r .1)),
+    )
 
 pub found-is-2-to-4097-records : (s : ℕ) (vs ps question : List ℕ) (budget : ℕ) (w : Work) → FoundIs2To4097Records s vs ps question budget w
 found-is-2-to-4097-records s vs ps question budget w some few bytes out steps n e =

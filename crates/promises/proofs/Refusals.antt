@@ -1,5 +1,5 @@
--- "Other than 0, nothing in the output changes": neither the search's output nor the read-out's points. "Up to 10 the work buffers stay too." First of the definitions
--- (specs/Promises), then of the contracts themselves (specs/Permits; `Post` is what a contract permits). Assumes nothing.
+-- "Other than 0, nothing in the output changes": neither the search's output nor the read-out's points. "Up to 10 the work buffers stay too." First
+-- of the definitions (specs/Promises), then of the contracts themselves (specs/Permits; `Post` is what a contract permits). Assumes nothing.
 use Prim.Native.Nat.{ℕ, _*_}
 use mathlib.Core.Path.{_≡_, refl, ap, _∙_}
 use mathlib.Core.Bool.{Bool, true, false, cond}
@@ -27,7 +27,8 @@ use Rattle.writing.specs.Answers.{answerTold, answerNumber}
 use Rattle.search.specs.Whole.{Searched, routed, betweenOf, searchOf}
 use Rattle.search.proofs.search.Reads as search
 use Rattle.search.proofs.search_default.Reads as search-default
-use Rattle.promises.specs.Promises.{TellsTheSame, without, with-route, Route, RefusalLeavesOutput, RefusedLeavesBuffers, NoPlacesLeavesBuffers, OnePolygonLeavesBuffers, ReadOutLeavesPoints}
+use Rattle.promises.specs.Promises.{TellsTheSame, without, with-route, Route}
+use Rattle.promises.specs.Promises.{RefusalLeavesOutput, RefusedLeavesBuffers, NoPlacesLeavesBuffers, OnePolygonLeavesBuffers, ReadOutLeavesPoints}
 use Rattle.promises.specs.Permits.{UnchangedUnlessZero}
 use Rattle.promises.proofs.Output.{search-tells, route-fits, route-lacks}
 
@@ -49,7 +50,9 @@ refusal-leaves-output s vs ps question budget w out = go (search-tells s vs ps q
 
         by : (b : Bool) → ltb (length out) (length bytes) ≡ b → asked out .out ≡ out
         by true l = ap (λ (x : Searched). x .out) (route-lacks asked out steps (length bytes) route (ltb-true (length out) (length bytes) l))
-        by false l = absurd (z (ap (λ (x : Searched). answerNumber (x .answer)) (route-fits asked out steps (length bytes) route (ltb-false (length out) (length bytes) l))))
+        by false l =
+            absurd (z (ap (λ (x : Searched). answerNumber (x .answer))
+            (route-fits asked out steps (length bytes) route (ltb-false (length out) (length bytes) l))))
 
 -- ---- the work buffers
 

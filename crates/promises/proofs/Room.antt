@@ -36,11 +36,14 @@ use Rattle.promises.proofs.Output.{search-tells, found-tells, route-fit
 
 -- ---- what is written
 
-short-written : (bytes : List ℕ) (most : ℕ) → length bytes ≤ 32 * (most + 1) → (counted : ℕ) (out : List ℕ) (steps : ℕ) → 32 * (most + 1) ≤ length out → written bytes counted out .answer ≡ Short steps → ⊥
+short-written : (bytes : List ℕ) (most : ℕ) → length bytes ≤ 32 * (most + 1) → (counted : ℕ) (out : List ℕ) (steps : ℕ)
+    → 32 * (most + 1) ≤ length out → written bytes counted out .answer ≡ Short steps → ⊥
 unfolding written
 short-written bytes most few counted out steps room = go (ltb (length out) (length bytes)) refl
   where
-    go : (b : Bool) → ltb (length out) (length bytes) ≡ b → cond {A = Delivered} b (deliveredOf (Short counted) out) (deliveredOf (Found counted (length bytes)) (bytes ++ drop (length bytes) out)) .answer ≡ Short steps → ⊥
+    go : (b : Bool) → ltb (length out) (length bytes) ≡ b
+        → cond {A = Delivered} b (deliveredOf (Short counted) out) (deliveredOf (Found counted (length bytes)) (bytes ++ drop (length bytes) out)) .answer
+        ≡ Short steps → ⊥
     go true l e = let h = ltb-true (length out) (length bytes) l in omega arith
     go false l e = let z : _≡_ {A = ℕ} 0 1 = cc in omega arith
 

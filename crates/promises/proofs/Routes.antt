@@ -41,16 +41,21 @@ use Rattle.promises.proofs.Ends.{taskFor, endFor, sound-end, its-ground
 -- ---- what is written
 
 module _ (w : World Node) (bytes : List ℕ) (true-route : TrueRoute w bytes) where
-  written-is-true : (counted : ℕ) (out : List ℕ) (steps n : ℕ) → written bytes counted out .answer ≡ Found steps n → TrueRoute w (take n (written bytes counted out .out))
+  written-is-true : (counted : ℕ) (out : List ℕ) (steps n : ℕ) → written bytes counted out .answer ≡ Found steps n
+      → TrueRoute w (take n (written bytes counted out .out))
   unfolding written
   written-is-true counted out steps n = go (ltb (length out) (length bytes))
     where
-      go : (b : Bool) → cond {A = Delivered} b (deliveredOf (Short counted) out) (deliveredOf (Found counted (length bytes)) (bytes ++ drop (length bytes) out)) .answer ≡ Found steps n
-          → TrueRoute w (take n (cond {A = Delivered} b (deliveredOf (Short counted) out) (deliveredOf (Found counted (length bytes)) (bytes ++ drop (length bytes) out)) .out))
+      go : (b : Bool)
+          → cond {A = Delivered} b (deliveredOf (Short counted) out) (deliveredOf (Found counted (length bytes)) (bytes ++ drop (length bytes) out)) .answer
+          ≡ Found steps n
+          → TrueRoute w (take n
+          (cond {A = Delivered} b (deliveredOf (Short counted) out) (deliveredOf (Found counted (length bytes)) (bytes ++ drop (length bytes) out)) .out))
       go true e = let z : _≡_ {A = ℕ} 0 1 = cc in absurd (omega arith)
       go false e =
           let k : length bytes ≡ n = cc in
-          subst (TrueRoute w) (sym (ap (λ (m : ℕ). take m (bytes ++ drop (length bytes) out)) (sym k) ∙ take-append-seam bytes (drop (length bytes) out))) true-route
+          subst (TrueRoute w)
+          (sym (ap (λ (m : ℕ). take m (bytes ++ drop (length bytes) out)) (sym k) ∙ take-append-seam bytes (drop (length bytes) out))) true-route
 
 -- ---- what is found
 
