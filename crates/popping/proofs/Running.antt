@@ -1,11 +1,12 @@
 -- A run, step by step: what was to be run is what is left to be run. Assumes nothing.
-use Prim.Native.Nat.{ℕ, suc, _+_, _-_, _*_, _/_, _≤_, _<_}
+use Prim.Native.Nat.{ℕ, suc, _+_, _-_, _≤_, _<_, _^_}
 use native.Mathlib.Omega.{arith}
 use mathlib.Core.Path.{_≡_, refl, sym, ap, _∙_, subst}
-use mathlib.Core.Bool.{true, false}
+use mathlib.Core.Bool.{Bool, true, false}
 use mathlib.Core.List.{List}
 use borrow.Author.Tests.{eq-eqb, ne-eqb}
 use lib.Dec.{eqb}
+use lib.Ieee.{Float}
 use lib.ListN.{length}
 use Rattle.point.specs.declared.Point.{Point}
 use Rattle.point.specs.Point.{sameOf}
@@ -15,7 +16,7 @@ use Rattle.edges.specs.Ground.{Ground}
 use Rattle.steps.specs.declared.Node.{Node}
 use Rattle.steps.specs.Steps.{stepsFrom, seedNode}
 use Rattle.going.proofs.Stands.{seed-stands}
-use Rattle.queue.specs.Queue.{none}
+use Rattle.queue.specs.Queue.{none, leastOf, NoNan, Tree}
 use Rattle.machine.specs.declared.Task.{Task}
 use Rattle.machine.specs.declared.Origin.{Origin}
 use Rattle.machine.specs.declared.Finish.{Finish}
@@ -29,22 +30,26 @@ use Rattle.machine.proofs.Kept.{sound-step, numbered-step}
 use Rattle.machine.proofs.Begun.{sound-begun, on-first, sound-seeded, numbered-seeded}
 use Rattle.making.proofs.Looping.{AsLong}
 use Rattle.machine.proofs.Counting.{pops-made-all, pops-step}
+use Rattle.popping.proofs.Stepping.{least-is}
 
 pub record Runs (plan vs ps : List ℕ) (t : Task) (budget : ℕ) (was at : State) (left : ℕ) : Type 0 where
+  pub ground : Ground plan vs ps
   pub sound : SoundFrom plan vs ps t at
   pub long : AsLong at was
-  pub count : at .counts .pops + left ≤ was .counts .pops + budget
+  pub count : at .counts .pops + left < 2 ^ 64
   pub rest : run (floorIn plan vs ps) t budget was ≡ run (floorIn plan vs ps) t left at
 
-pub runs-begin : (budget : ℕ) {plan vs ps : List ℕ} {t : Task} {was : State} → SoundFrom plan vs ps t was → Runs plan vs ps t budget was was budget
-runs-begin budget h = record {
+pub runs-begin : {plan vs ps : List ℕ} {t : Task} {budget : ℕ} {was : State} → Ground plan vs ps → SoundFrom plan vs ps t was
+    → was .counts .pops + budget < 2 ^ 64 → Runs plan vs ps t budget was was budget
+runs-begin g h few = record {
+  ground = g;
   sound = h;
   long = record { floats-long = refl; words-long = refl; queue-long = refl };
-  count = omega arith;
+  count = few;
   rest = refl;
 }
 
-module _ {plan vs ps : List ℕ} {t : Task} {budget : ℕ} {was at : State} {left : ℕ} (g : Ground plan vs ps) (r : Runs plan vs ps t budget was at left) where
+module _ {plan vs ps : List ℕ} {t : Task} {budget : ℕ} {was at : State} {left : ℕ} (r : Runs plan vs ps t budget was at left) where
   abbrev f : Floor
   f = floorIn plan vs ps
 
@@ -60,9 +65,11 @@ module _ {plan vs ps : List ℕ} {t : Task} {budget : ℕ} {was at : State} {lef
 
     pub runs-next : st .outcome ≡ Goes → AsLong (st .state) at → Runs plan vs ps t budget was (st .state) (left - 1)
     runs-next e long =
+        let g = r .ground in
         let seed = r .sound .seed in
         let sound = r .sound .sound in
         record {
+          ground = g;
           sound = record {
             seed = seed;
             sound = subst (λ (x : Stepping). Sound plan vs ps t seed (x .state)) (sym stepped) (sound-step plan vs ps t seed g at sound .sound);
@@ -77,7 +84,11 @@ module _ {plan vs ps : List ℕ} {t : Task} {budget : ℕ} {was at : State} {lef
           rest = turned ∙ ap (λ (o : Outcome). onwards f t (st .state) o (run f t (left - 1))) e;
         }
 
-  module _ (over : left ≤ 0) {w : ℕ} (least : w ≡ leastIn (t .places) (at .work)) where
+  module _ (over : left ≤ 0) {w : ℕ}
+      (told : (f : ℕ → Float) (n : ℕ) (q : ℕ → Bool) → 0 < n → n ≤ none → NoNan f n q → Tree f n q (at .work .queue) → w ≡ leastOf f n q) where
+    least : w ≡ leastIn (t .places) (at .work)
+    least = least-is (r .sound) told
+
     at-end : run f t budget was ≡ run f t 0 at
     at-end = let e : left ≡ 0 = omega arith in r .rest ∙ ap (λ (k : ℕ). run f t k at) e
 

@@ -15,9 +15,10 @@ use Rattle.steps.specs.World.{isInGoal}
 use Rattle.queue.specs.Queue.{none, put, leastOf, NoNan, Tree}
 use Rattle.queue.specs.Words.{column, queuedIn, queueOf}
 use Rattle.machine.specs.declared.Task.{Task}
+use Rattle.machine.specs.declared.Counts.{Counts}
 use Rattle.machine.specs.declared.Finish.the-variants.{Arrived, Emptied, Filled}
 use Rattle.machine.specs.declared.Outcome.the-variants.{Goes, Ends}
-use Rattle.places.specs.Layout.{workOf, nodeAt, parentAt, depthAt, numberAt, recordFor, recordDistance, fAt, isQueued, leastIn}
+use Rattle.places.specs.Layout.{workOf, nodeAt, parentIn, depthAt, numberIn, numberAt, recordFor, recordDistance, fAt, isQueued, leastIn}
 use Rattle.machine.specs.Search.{State, stateOf, Making, Stepping, stepping, counted, beatenIn, originAt, madeAll, visited, popped, step}
 use Rattle.edges.specs.Ground.{Ground}
 use Rattle.machine.specs.Sound.{OnRecord, Numbered, SoundFrom, Leaves}
@@ -25,25 +26,17 @@ use Rattle.machine.proofs.Kept.{popped-queued, popped-taken, sound-popped, numb
 
 -- ---- a node that was popped
 
--- the rows of its place are there,
-module _ {plan vs ps : List ℕ} {t : Task} {s : State} (h : SoundFrom plan vs ps t s) (i : ℕ) (l : i < s .counts .taken) where
-  pub floats-row : (i + 1) * 11 ≤ length (s .work .floats)
-  floats-row = omega (arith, l, h .sound .taken-in, h .sound .fit .room .floats-room)
-
-  pub words-row : (i + 1) * 8 ≤ length (s .work .words)
-  words-row = omega (arith, l, h .sound .taken-in, h .sound .fit .room .words-room)
-
-  -- its root's record too,
-  pub record-row : {number : ℕ} → number ≡ numberAt (s .work) i → (number + 1) * 11 ≤ length (s .work .floats)
-  record-row kept =
+-- the rows of its root's record, and of its parent, are there
+module _ {plan vs ps : List ℕ} {t : Task} {fs : List Float} {ws qs : List ℕ} {counts : Counts}
+    (h : SoundFrom plan vs ps t (stateOf (workOf fs ws qs) counts)) where
+  pub record-row : (i : ℕ) → i < counts .taken → {number : ℕ} → number ≡ numberIn ws i → (number + 1) * 11 ≤ length fs
+  record-row i l kept =
       let sound = h .sound in
       omega (arith, kept, h .numbered i l .low, sound .fit .records-in, sound .taken-in, sound .fit .room .floats-room)
 
--- and its parent's
-pub parent-row : {plan vs ps : List ℕ} {t : Task} {s : State} → SoundFrom plan vs ps t s → (i : ℕ) → i < s .counts .taken
-    → (parentAt (s .work) i + 1) * 8 ≤ length (s .work .words)
-parent-row h zero l = omega (arith, h .sound .seed-parent, h .sound .fit .room .words-room, h .sound .taken-in, l)
-parent-row h (suc i) l = omega (arith, h .sound .entered (suc i) (omega arith) l .lower, h .sound .fit .room .words-room, h .sound .taken-in, l)
+  pub parent-row : (i : ℕ) → i < counts .taken → (parentIn ws i + 1) * 8 ≤ length ws
+  parent-row zero l = omega (arith, h .sound .seed-parent, h .sound .fit .room .words-room, h .sound .taken-in, l)
+  parent-row (suc i) l = omega (arith, h .sound .entered (suc i) (omega arith) l .lower, h .sound .fit .room .words-room, h .sound .taken-in, l)
 
 -- what was read of it: the node, the number of its root's record, and the distance there
 pub record Popped (s : State) (i : ℕ) (node : Node) (number : ℕ) (distance : Float) : Type 0 where

@@ -30,9 +30,6 @@ least c = least-is (start c .pre .1 .0) (c .least .ensures .1)
 
 -- ---- the needs
 
-returns : tie.Need-returns
-returns c = let l = c .before in turns-empty (start l .pre .1 .0) (least l) (c .if1 .taken)
-
 remove-requires : tie.Need-remove-requires
 remove-requires c κs =
     let l = some c .before in
@@ -74,7 +71,7 @@ turn-spec =
     (tie.spec
     (λ c κs. search needs)
     (λ c. search needs)
-    returns
+    (λ c. turns-empty (search needs) (least (c .before)) (c .if1 .taken))
     (λ c. search needs)
     remove-requires
     (λ c. search needs)

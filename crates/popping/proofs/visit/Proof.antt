@@ -1,17 +1,15 @@
 -- `popping::visit` meets its contract. Assumes nothing.
 use borrow.Author.Needs.{needs}
 use denote.Ref.{now}
+use native.Mathlib.Omega.{arith}
 use borrow.Author.Tests.{ne-eqb}
 use Rattle.places.specs.Layout.{workOf}
 use Rattle.machine.specs.Search.{State, stateOf}
-use Rattle.popping.proofs.Stepping.{floats-row, words-row, record-row, parent-row, Popped, visits-beaten, visits-goal, visits-full, visits-on, leaves-of}
+use Rattle.popping.proofs.Stepping.{record-row, parent-row, Popped, visits-beaten, visits-goal, visits-full, visits-on, leaves-of}
 use Rattle.popping.proofs.visit.Statement.{statement}
 use Rattle.popping.proofs.visit.Tie as tie
 
 -- ---- places, the first first
-
-abbrev start : tie.After-node-at-arg2 → tie.Start
-start c = c .before .before .before .before .before .before .before
 
 abbrev was : tie.Start → State
 was s = stateOf (workOf (now (s .args .floats)) (now (s .args .words)) (now (s .args .tree))) (s .args .counts)
@@ -19,8 +17,8 @@ was s = stateOf (workOf (now (s .args .floats)) (now (s .args .words)) (now (s .
 abbrev read : tie.After-number-at → tie.After-node-at
 read c = c .before .before
 
-abbrev begun : tie.After-number-at → tie.Start
-begun c = start (read c .before)
+abbrev start : tie.After-number-at → tie.Start
+start c = read c .before .before .before .before .before .before .before .before
 
 abbrev numbered : tie.After-record-distance → tie.After-number-at
 numbered c = c .before .before
@@ -43,10 +41,10 @@ abbrev made : tie.After-counts → tie.After-make-steps
 made c = c .before .before .before .before .before .before .before
 
 -- what was read
-popped : (c : tie.After-record-distance) → let n = numbered c in let s = begun n in
+popped : (c : tie.After-record-distance) → let n = numbered c in let s = start n in
     Popped (was s) (s .args .i) (read n .node-at .result) (n .number-at .result) (c .record-distance .result)
 popped c = let n = numbered c in record {
-  low = begun n .pre .1 .1;
+  low = start n .pre .1 .1;
   read = read n .node-at .ensures;
   numbered = n .number-at .ensures;
   told = c .record-distance .ensures;
@@ -54,36 +52,20 @@ popped c = let n = numbered c in record {
 
 -- ---- the needs
 
-node-at-requires : tie.Need-node-at-requires
-node-at-requires c κs =
-    let s = start c in
-    let sound = s .pre .1 .0 in
-    let low = s .pre .1 .1 in
-    (floats-row sound _ low, words-row sound _ low, parent-row sound _ low)
-
-number-at-requires : tie.Need-number-at-requires
-number-at-requires c κs = let s = start (c .before .before) in words-row (s .pre .1 .0) _ (s .pre .1 .1)
-
-record-distance-requires : tie.Need-record-distance-requires
-record-distance-requires c κs = let n = c .before in let s = begun n in record-row (s .pre .1 .0) _ (s .pre .1 .1) (n .number-at .ensures)
-
 returns : tie.Need-returns
-returns c = let d = c .before .before in visits-beaten (begun (numbered d) .pre .1 .0) (popped d) (c .if1 .taken)
+returns c = let d = c .before .before in visits-beaten (start (numbered d) .pre .1 .0) (popped d) (c .if1 .taken)
 
 returns-2 : tie.Need-returns-2
 returns-2 c =
     let u = c .before .before .before in
     let d = told u in
-    visits-goal (begun (numbered d) .pre .1 .0) (popped d) (u .if1 .left) (c .if2 .taken)
-
-depth-at-requires : tie.Need-depth-at-requires
-depth-at-requires c κs = let s = begun (numbered (told (unbeaten (c .before)))) in words-row (s .pre .1 .0) _ (s .pre .1 .1)
+    visits-goal (start (numbered d) .pre .1 .0) (popped d) (u .if1 .left) (c .if2 .taken)
 
 make-steps-requires : tie.Need-make-steps-requires
 make-steps-requires c κs =
     let e = elsewhere (deep c) in
     let d = told (unbeaten e) in
-    let s = begun (numbered d) in
+    let s = start (numbered d) in
     (s .pre .1 .0 .sound .fit, (leaves-of (s .pre .1 .0) (popped d) (deep c .depth-at .ensures), (s .pre .0, ne-eqb _ _ (e .if2 .left))))
 
 returns-3 : tie.Need-returns-3
@@ -93,7 +75,7 @@ returns-3 c =
     let e = elsewhere below in
     let u = unbeaten e in
     let d = told u in
-    visits-full (begun (numbered d) .pre .1 .0) (popped d) (u .if1 .left) (e .if2 .left) (below .depth-at .ensures) (m .make-steps .ensures) (c .if3 .taken)
+    visits-full (start (numbered d) .pre .1 .0) (popped d) (u .if1 .left) (e .if2 .left) (below .depth-at .ensures) (m .make-steps .ensures) (c .if3 .taken)
 
 returns-4 : tie.Need-returns-4
 returns-4 c =
@@ -102,23 +84,23 @@ returns-4 c =
     let e = elsewhere below in
     let u = unbeaten e in
     let d = told u in
-    visits-on (begun (numbered d) .pre .1 .0) (popped d) (u .if1 .left) (e .if2 .left) (below .depth-at .ensures) (m .make-steps .ensures) (c .if3 .left)
+    visits-on (start (numbered d) .pre .1 .0) (popped d) (u .if1 .left) (e .if2 .left) (below .depth-at .ensures) (m .make-steps .ensures) (c .if3 .left)
 
 pub visit-spec : {M : Type 1} → statement M
 visit-spec =
     tie.close
     (tie.spec
-    node-at-requires
-    number-at-requires
+    (λ c κs. (omega arith, omega arith, search (needs, parent-row)))
+    (λ c κs. omega arith)
     (λ c. search needs)
-    record-distance-requires
+    (λ c κs. search (needs, record-row))
     (λ c. search needs)
     (λ c. search needs)
     returns
     (λ c. search needs)
     (λ c. search needs)
     returns-2
-    depth-at-requires
+    (λ c κs. omega (arith, start (numbered (told (unbeaten (c .before)))) .pre))
     make-steps-requires
     (λ c. search needs)
     (λ c. search needs)

@@ -16,6 +16,13 @@ use Rattle.readout.proofs.put_last.Tie as tie
 abbrev start : tie.After-struct-known → tie.Start
 start c = c .before .before
 
+-- a seed, whose goal is put
+abbrev seed-begun : tie.Then1 → tie.Start
+seed-begun c = start (c .before)
+
+abbrev seeded : tie.After-put-point-arg → tie.Then1
+seeded c = c .before
+
 -- no seed, and where the turning point was asked for
 abbrev unseeded : tie.After-turning-point → tie.Else1
 unseeded c = c .before .before .before
@@ -33,7 +40,10 @@ told c = c .before .before
 abbrev put : tie.After-put-point-arg3 → tie.After-put-point2
 put c = c .before .before .before
 
--- straight
+-- straight: told, then the goal put
+abbrev straight-told : tie.After-put-point-arg4 → tie.After-enum-told
+straight-told c = c .before
+
 abbrev asked-straight : tie.After-enum-told → tie.After-turning-point
 asked-straight c = c .before .before
 
@@ -45,7 +55,7 @@ points s = now (s .args .points)
 abbrev last : tie.Start → List Point
 last s = lastPoints (s .args .goal) (s .args .node)
 
-seed : (c : tie.Then1) → let s = start (c .before) in last s ≡ s .args .goal ∷ []
+seed : (c : tie.Then1) → let s = seed-begun c in last s ≡ s .args .goal ∷ []
 seed c = last-of-seed _ _ (c .if1 .taken)
 
 around : (c : tie.After-turn) → let s = begun (asked c) in last s ≡ c .turn .given .0 .0 ∷ s .args .goal ∷ []
@@ -57,18 +67,19 @@ straight c = let by = asked-straight c in last-straight _ _ _ (unseeded by .if1 
 -- ---- the goal alone
 
 put-point-requires : tie.Need-put-point-requires
-put-point-requires c κs = let by = c .before in let s = start (by .before) in room-for-one _ (s .args .node) (points s) _ (seed by) (s .pre)
+put-point-requires c κs = let s = seed-begun (seeded c) in room-for-one _ (s .args .node) (points s) _ (seed (seeded c)) (s .pre)
 
 returns : tie.Need-returns
-returns c = let done = c .before .before in done .put-point .ensures ∙ rw (seed (done .before .before)) (put-one _ _ _)
+returns c = let done = c .before .before in done .put-point .ensures ∙ rw (seed (seeded (done .before))) (put-one _ _ _)
 
 put-point-requires-4 : tie.Need-put-point-requires-4
 put-point-requires-4 c κs =
-    let s = begun (asked-straight (c .before)) in
-    room-for-one _ (s .args .node) (points s) _ (straight (c .before)) (s .pre)
+    let by = straight-told c in
+    let s = begun (asked-straight by) in
+    room-for-one _ (s .args .node) (points s) _ (straight by) (s .pre)
 
 returns-3 : tie.Need-returns-3
-returns-3 c = let done = c .before .before in done .put-point4 .ensures ∙ rw (straight (done .before .before)) (put-one _ _ _)
+returns-3 c = let done = c .before .before in done .put-point4 .ensures ∙ rw (straight (straight-told (done .before))) (put-one _ _ _)
 
 -- ---- a corner before it
 

@@ -1,3 +1,4 @@
+-- `seek::ends_there` meets its contract: each return is its definition's case, by its arm and by what its callees ensure. Assumes nothing.
 use borrow.Author.Needs.{needs}
 use Rattle.seek.specs.Seek.{endsAt}
 use Rattle.seek.proofs.ends_there.Statement.{statement}
@@ -6,17 +7,17 @@ use Rattle.seek.proofs.ends_there.Tie as tie
 returns : tie.Need-returns
 unfolding endsAt
 returns c =
-    let c1 = c .before in
-    let c2 = c1 .before in
-    let c4 = c2 .before .before in
-    rw (c4 .seen .given .1, ← c2 .is-interval .ensures, c1 .if1 .taken, ← c .has-interval .ensures)
+    let right = c .before in
+    let asked = right .before in
+    let told = asked .before .before in
+    rw (told .seen .given .1, ← asked .is-interval .ensures, right .if1 .taken, ← c .has-interval .ensures)
 
 returns-2 : tie.Need-returns-2
 unfolding endsAt
 returns-2 c =
-    let c1 = c .before in
-    let c3 = c1 .before .before in
-    rw (c3 .seen .given .1, ← c1 .is-interval .ensures, c .if1 .left)
+    let asked = c .before in
+    let told = asked .before .before in
+    rw (told .seen .given .1, ← asked .is-interval .ensures, c .if1 .left)
 
 returns-3 : tie.Need-returns-3
 unfolding endsAt

@@ -18,73 +18,94 @@ abbrev μ-loop : tie.MeasureT-loop
 
 -- ---- places
 
-abbrev start : tie.At-loop Inv-loop μ-loop → tie.Start Inv-loop μ-loop
-start l = l .before .before .before .before .before .before .before
+abbrev start : tie.After-struct-known Inv-loop μ-loop → tie.Start Inv-loop μ-loop
+start c = c .before .before .before .before
 
--- the turn in which an edge was walked
-abbrev turning : tie.After-look-on-edge Inv-loop μ-loop → tie.Then2 Inv-loop μ-loop
-turning c = c .before
+-- in another polygon than the goal's, at its first edge
+abbrev other : tie.Else1 Inv-loop μ-loop → tie.Start Inv-loop μ-loop
+other c = start (c .before)
 
-goes-on : (c : tie.Then2 Inv-loop μ-loop) → isOverOf (c .before .before .loop .round) ≡ false
-goes-on c = sym (c .before .is-over .ensures) ∙ not-true (c .before .is-over .result) (c .if2 .taken)
+abbrev begun : tie.After-begin Inv-loop μ-loop → tie.Else1 Inv-loop μ-loop
+begun c = c .before
+
+abbrev began : tie.At-loop Inv-loop μ-loop → tie.Start Inv-loop μ-loop
+began l = other (begun (l .before))
+
+-- a turn of the loop: an edge is left, is walked, and is passed
+abbrev loop : tie.After-is-over Inv-loop μ-loop → tie.At-loop Inv-loop μ-loop
+loop c = c .before
+
+abbrev asked : tie.Then2 Inv-loop μ-loop → tie.After-is-over Inv-loop μ-loop
+asked c = c .before
+
+abbrev turn : tie.After-look-on-edge Inv-loop μ-loop → tie.Then2 Inv-loop μ-loop
+turn c = c .before
+
+abbrev looked : tie.Else3 Inv-loop μ-loop → tie.After-look-on-edge Inv-loop μ-loop
+looked c = c .before
+
+abbrev passed : tie.After-round Inv-loop μ-loop → tie.Else3 Inv-loop μ-loop
+passed c = c .before
+
+goes-on : (c : tie.Then2 Inv-loop μ-loop) → isOverOf (loop (asked c) .loop .round) ≡ false
+goes-on c = sym (asked c .is-over .ensures) ∙ not-true _ (c .if2 .taken)
 
 -- ---- before the loop
 
 returns : tie.Need-returns Inv-loop μ-loop
 returns c =
-    let s = c .before .before .before .before .before in
+    let s = start (c .before) in
     sym (none-in-goal _ (s .args .goal) (s .args .node) (now (s .args .route)) (s .args .i) (c .if1 .taken))
 
 begin-requires : tie.Need-begin-requires Inv-loop μ-loop
-begin-requires c κs = let s = c .before .before .before .before .before in polygon-lies _ _ _ (s .args .node) (s .pre .0 .0)
+begin-requires c κs = polygon-lies _ _ _ (other c .args .node) (other c .pre .0 .0)
 
 loop-holds : tie.Need-loop-holds Inv-loop μ-loop
 loop-holds c =
-    let s = c .before .before .before .before .before .before in
-    seeking-begins _ _ _ (s .args .node) (s .pre .0 .0) (now (s .args .route)) (s .args .i) (s .args .goal) (c .before .if1 .left) (c .begin .ensures)
+    let s = other (begun c) in
+    seeking-begins _ _ _ (s .args .node) (s .pre .0 .0) (now (s .args .route)) (s .args .i) (s .args .goal) (begun c .if1 .left) (c .begin .ensures)
 
 -- ---- an edge
 
 look-on-edge-requires : tie.Need-look-on-edge-requires Inv-loop μ-loop
 look-on-edge-requires c κs =
-    let l = c .before .before in
-    let s = start l in
+    let l = loop (asked c) in
+    let s = began l in
     (s .pre .0, (l .loop .inv .goes, goes-on c, s .pre .1))
 
 returns-2 : tie.Need-returns-2 Inv-loop μ-loop
 returns-2 c =
-    let turn = turning (c .before) in
-    let l = turn .before .before in
-    let s = start l in
-    sym (edge-found _ _ _ (s .args .node) (s .pre .0 .0) (now (s .args .route)) (s .args .i) (s .args .goal) (l .loop .round) (l .loop .inv) (goes-on turn)
-    (sym (c .before .look-on-edge .ensures .0) ∙ c .if3 .taken))
+    let by = c .before in
+    let l = loop (asked (turn by)) in
+    let s = began l in
+    sym (edge-found _ _ _ (s .args .node) (s .pre .0 .0) (now (s .args .route)) (s .args .i) (s .args .goal) (l .loop .round) (l .loop .inv)
+    (goes-on (turn by)) (sym (by .look-on-edge .ensures .0) ∙ c .if3 .taken))
 
 loop-less : tie.Need-loop-less Inv-loop μ-loop
 loop-less c =
-    let looked = c .before .before in
-    let turn = turning looked in
-    let l = turn .before .before in
-    let s = start l in
-    edge-fewer _ _ _ (s .args .node) (s .pre .0 .0) (now (s .args .route)) (s .args .i) (s .args .goal) (l .loop .round) (l .loop .inv) (goes-on turn)
-    (looked .look-on-edge .ensures .1)
+    let by = looked (passed c) in
+    let l = loop (asked (turn by)) in
+    let s = began l in
+    edge-fewer _ _ _ (s .args .node) (s .pre .0 .0) (now (s .args .route)) (s .args .i) (s .args .goal) (l .loop .round) (l .loop .inv)
+    (goes-on (turn by)) (by .look-on-edge .ensures .1)
 
 loop-again : tie.Need-loop-again Inv-loop μ-loop
 loop-again c =
-    let looked = c .before .before in
-    let turn = turning looked in
-    let l = turn .before .before in
-    let s = start l in
-    edge-passed _ _ _ (s .args .node) (s .pre .0 .0) (now (s .args .route)) (s .args .i) (s .args .goal) (l .loop .round) (l .loop .inv) (goes-on turn)
-    (sym (looked .look-on-edge .ensures .0) ∙ c .before .if3 .left) (looked .look-on-edge .ensures .1)
+    let by = looked (passed c) in
+    let l = loop (asked (turn by)) in
+    let s = began l in
+    edge-passed _ _ _ (s .args .node) (s .pre .0 .0) (now (s .args .route)) (s .args .i) (s .args .goal) (l .loop .round) (l .loop .inv)
+    (goes-on (turn by)) (sym (by .look-on-edge .ensures .0) ∙ passed c .if3 .left) (by .look-on-edge .ensures .1)
 
 -- ---- behind the last
 
 returns-3 : tie.Need-returns-3 Inv-loop μ-loop
 returns-3 c =
-    let l = c .before .before in
-    let s = start l in
+    let over = c .before in
+    let l = loop over in
+    let s = began l in
     sym (seeking-ends _ _ _ (s .args .node) (s .pre .0 .0) (now (s .args .route)) (s .args .i) (s .args .goal) (l .loop .round) (l .loop .inv)
-    (sym (c .before .is-over .ensures) ∙ not-false (c .before .is-over .result) (c .if2 .left)))
+    (sym (over .is-over .ensures) ∙ not-false _ (c .if2 .left)))
 
 pub is-step-spec : {M : Type 1} → statement M
 is-step-spec =

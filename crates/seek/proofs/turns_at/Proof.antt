@@ -14,26 +14,32 @@ use Rattle.seek.proofs.turns_at.Tie as tie
 abbrev start : tie.After-used-vertex → tie.Start
 start c = c .before .before
 
+abbrev used : tie.After-lands-on → tie.After-used-vertex
+used c = c .before
+
+abbrev landed : tie.Then1 → tie.After-lands-on
+landed c = c .before
+
 listed : (s : tie.Start) → s .args .v < length (now (s .args .vertices)) / 8
 listed s = omega (arith, s .pre .0 .counted, s .pre .1)
 
 -- ---- needs
 
 turns-requires : tie.Need-turns-requires
-turns-requires c κs = let s = start (c .before .before) in omega (arith, listed s, s .pre .0 .few)
+turns-requires c κs = let s = start (used (landed c)) in omega (arith, listed s, s .pre .0 .few)
 
 returns : tie.Need-returns
 unfolding turnsAt
 returns c =
-    let landed = c .before .before in
-    let used = landed .before in
-    rw (vertex-used _ _ (listed (start used)), ← used .used-vertex .ensures, ← landed .lands-on .ensures, c .before .if1 .taken) (c .turns .ensures)
+    let lands = c .before in
+    let by = landed lands in
+    rw (vertex-used _ _ (listed (start (used by))), ← used by .used-vertex .ensures, ← by .lands-on .ensures, lands .if1 .taken) (c .turns .ensures)
 
 returns-2 : tie.Need-returns-2
 unfolding turnsAt
 returns-2 c =
-    let used = c .before .before in
-    rw (vertex-used _ _ (listed (start used)), ← used .used-vertex .ensures, ← c .before .lands-on .ensures, c .if1 .left)
+    let by = c .before in
+    rw (vertex-used _ _ (listed (start (used by))), ← used by .used-vertex .ensures, ← by .lands-on .ensures, c .if1 .left)
 
 pub turns-at-spec : {M : Type 1} → statement M
 turns-at-spec =
