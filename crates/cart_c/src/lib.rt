@@ -36,7 +36,9 @@ pub extern "C" fn cart_judge(
     fault: &mut usize,
 ) -> u32
     ensures { λ r. ⌜ r ≡ verdictNumber (verdictOf 8 (now (vertices .entry)) (now (polygons .entry)) (now (question .entry)) (now (route .entry))) ⌝ }
-    ensures { λ _. ⌜ now (fault .exit) ≡ recordWritten (atOf (verdictRecord (verdictOf 8 (now (vertices .entry)) (now (polygons .entry)) (now (question .entry)) (now (route .entry))))) (now (fault .entry)) ⌝ }
+    ensures { λ _.
+        let verdict = verdictOf 8 (now (vertices .entry)) (now (polygons .entry)) (now (question .entry)) (now (route .entry)) in
+        ⌜ now (fault .exit) ≡ recordWritten (atOf (verdictRecord verdict)) (now (fault .entry)) ⌝ }
 {
     let told = judge::judge(vertices, polygons, question, route).told();
     put(fault, told);
@@ -54,9 +56,17 @@ pub extern "C" fn cart_read_out(
     points: &mut [f32],
     value: &mut usize,
 ) -> u32
-    ensures { λ r. ⌜ r ≡ readoutNumber (readoutOf 8 (now (vertices .entry)) (now (polygons .entry)) (now (question .entry)) (now (route .entry)) (now (points .entry))) ⌝ }
-    ensures { λ _. ⌜ now (points .exit) ≡ writtenOf 8 (now (vertices .entry)) (now (polygons .entry)) (now (question .entry)) (now (route .entry)) (now (points .entry)) ⌝ }
-    ensures { λ _. ⌜ now (value .exit) ≡ valueWritten (readoutValues (readoutOf 8 (now (vertices .entry)) (now (polygons .entry)) (now (question .entry)) (now (route .entry)) (now (points .entry)))) (now (value .entry)) ⌝ }
+    ensures { λ r.
+        let before = now (points .entry) in
+        let readout = readoutOf 8 (now (vertices .entry)) (now (polygons .entry)) (now (question .entry)) (now (route .entry)) before in
+        ⌜ r ≡ readoutNumber readout ⌝ }
+    ensures { λ _.
+        let before = now (points .entry) in
+        ⌜ now (points .exit) ≡ writtenOf 8 (now (vertices .entry)) (now (polygons .entry)) (now (question .entry)) (now (route .entry)) before ⌝ }
+    ensures { λ _.
+        let before = now (points .entry) in
+        let readout = readoutOf 8 (now (vertices .entry)) (now (polygons .entry)) (now (question .entry)) (now (route .entry)) before in
+        ⌜ now (value .exit) ≡ valueWritten (readoutValues readout) (now (value .entry)) ⌝ }
 {
     let told = readout::read_out(vertices, polygons, question, route, points).told();
     put(value, told);
@@ -87,7 +97,11 @@ pub extern "C" fn cart_search(
     steps: &mut usize,
     value: &mut usize,
 ) -> u32
-    ensures { λ r. ⌜ handedOf r (workOf (now (floats .exit)) (now (words .exit)) (now (tree .exit))) (now (out .exit)) (now (steps .exit)) (now (value .exit)) ≡ handedBy (searchOf 8 (now (vertices .entry)) (now (polygons .entry)) (now (question .entry)) budget (workOf (now (floats .entry)) (now (words .entry)) (now (tree .entry))) (now (out .entry))) (now (value .entry)) ⌝ }
+    ensures { λ r.
+        let before = workOf (now (floats .entry)) (now (words .entry)) (now (tree .entry)) in
+        let after = workOf (now (floats .exit)) (now (words .exit)) (now (tree .exit)) in
+        let search = searchOf 8 (now (vertices .entry)) (now (polygons .entry)) (now (question .entry)) budget before (now (out .entry)) in
+        ⌜ handedOf r after (now (out .exit)) (now (steps .exit)) (now (value .exit)) ≡ handedBy search (now (value .entry)) ⌝ }
 {
     let answer = search::search(
         vertices,
