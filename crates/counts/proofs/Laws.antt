@@ -77,7 +77,8 @@ unfolding some
 some-at zero f h = absurd (subst (λ (b : Bool). T (not b)) h tt)
 some-at (suc n) f h = go (some n f) refl (f n) refl (some-at n f)
   where
-    go : (a : Bool) → some n f ≡ a → (b : Bool) → f n ≡ b → (some n f ≡ true → (k : ℕ) × (k < n) × (f k ≡ true)) → (k : ℕ) × (k < suc n) × (f k ≡ true)
+    go : (a : Bool) → some n f ≡ a → (b : Bool) → f n ≡ b → (some n f ≡ true → (k : ℕ) × (k < n) × (f k ≡ true))
+        → (k : ℕ) × (k < suc n) × (f k ≡ true)
     go true p b q r = (r p .0, up (r p .1), r p .2)
     go false p true q r = (n, here n, q)
     go false p false q r = absurd (subst (λ (b : Bool). T (not b)) (sym (none p q) ∙ h) tt)
@@ -129,10 +130,13 @@ first-tells (suc n) f = go (first-tells n f) (first-le n f) (ltb (first n f) n) 
     go : ((k : ℕ) → k < first n f → f k ≡ false) × (first n f < n → f (first n f) ≡ true) → first n f ≤ n
         → (a : Bool) → ltb (first n f) n ≡ a → (b : Bool) → f n ≡ b → Told (cond a (first n f) (cond b n (suc n)))
     go r l true p b q = (r .0, λ _. r .1 (ltb-true _ _ p))
-    go r l false p true q = let e : first n f ≡ n = omega (arith, ltb-false (first n f) n p) in (subst (λ (v : ℕ). (k : ℕ) → k < v → f k ≡ false) e (r .0), λ _. q)
+    go r l false p true q =
+        let e : first n f ≡ n = omega (arith, ltb-false (first n f) n p) in (subst (λ (v : ℕ). (k : ℕ) → k < v → f k ≡ false) e (r .0), λ _. q)
     go r l false p false q =
-        let e : first n f ≡ n = omega (arith, ltb-false (first n f) n p) in
-        ((λ k h. ⊎-elim (λ g. r .0 k (subst (λ (v : ℕ). k < v) (sym e) g)) (λ g. subst (λ (v : ℕ). f v ≡ false) (sym g) q) (last k n h)), λ h. absurd (omega arith))
+        let e : first n f ≡ n = omega (arith, ltb-false (first n f) n p) in (
+          (λ k h. ⊎-elim (λ g. r .0 k (subst (λ (v : ℕ). k < v) (sym e) g)) (λ g. subst (λ (v : ℕ). f v ≡ false) (sym g) q) (last k n h)),
+          λ h. absurd (omega arith),
+        )
 
 pub first-before : (n : ℕ) (f : ℕ → Bool) (k : ℕ) → k < first n f → f k ≡ false
 first-before n f = first-tells n f .0

@@ -11,7 +11,8 @@ use Rattle.edges.specs.Where.{planOf, isTurn}
 use Rattle.edges.proofs.Turned.{plan-turns}
 use Rattle.floor_c.specs.Numbers.{marksOf, markNumber}
 
-pub marks-told : (s : ℕ) (vs ps : List ℕ) {plan : List ℕ} → plan ≡ planOf s vs ps → (v : ℕ) → markNumber (isMarked plan) v ≡ markNumber (marksOf (floorOf s vs ps)) v
+pub marks-told : (s : ℕ) (vs ps : List ℕ) {plan : List ℕ} → plan ≡ planOf s vs ps → (v : ℕ)
+    → markNumber (isMarked plan) v ≡ markNumber (marksOf (floorOf s vs ps)) v
 unfolding markNumber
 marks-told s vs ps {plan} e v = go (ltb v 1024) refl
   where

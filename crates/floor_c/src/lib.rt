@@ -37,7 +37,8 @@ fn mark(plan: &[u32; PLAN], v: usize) -> u32
 // The same, with the look at the floor before it: document 01's number from 2 to 6 where it is refused.
 #[no_mangle]
 pub extern "C" fn floor_turn(vertices: &[u8], polygons: &[u8], v: usize) -> u32
-    ensures { λ r. ⌜ r ≡ turnNumber (floorLookOf 8 (now (vertices .entry)) (now (polygons .entry))) (markNumber (marksOf (floorOf 8 (now (vertices .entry)) (now (polygons .entry)))) v) ⌝ }
+    ensures { λ r. ⌜ r ≡ turnNumber (floorLookOf 8 (now (vertices .entry)) (now (polygons .entry)))
+        (markNumber (marksOf (floorOf 8 (now (vertices .entry)) (now (polygons .entry)))) v) ⌝ }
 {
     let mut plan = [0u32; PLAN];
     match floor::look_at_floor(vertices, polygons, &mut plan) {

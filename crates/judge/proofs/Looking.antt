@@ -16,7 +16,8 @@ use Rattle.judge.specs.Verdict.{verdictOf}
 
 module _ (slots : ℕ) (vs ps question route : List ℕ) {look : Look} (looked : look ≡ lookOf slots vs ps question) where
   -- inside: the slots are those that the plan has
-  pub judges-inside : {from to : ℕ} → look ≡ Inside from to → {s : ℕ} → s ≡ slots → {trip : Trip} → trip ≡ tripOf (questionOf question) from to
+  pub judges-inside : {from to : ℕ} → look ≡ Inside from to → {s : ℕ} → s ≡ slots → {trip : Trip}
+      → trip ≡ tripOf (questionOf question) from to
       → {judged : Judged} → judged ≡ judgeOf (worldIn (floorOf s vs ps) trip) route → Read judged ≡ verdictOf slots vs ps question route
   unfolding verdictOf
   judges-inside e s t j = ap Read j ∙ rw (s, t, ← looked, e)

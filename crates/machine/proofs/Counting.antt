@@ -61,7 +61,8 @@ module _ (f : Floor) (t : Task) where
       value = add binary32 (node .length) (heuristicOf (node .root) (t .trip .goal) (node .interval))
 
       go : (a b : Bool)
-          → (cond a (making s false) (cond b (making s true) (making (taken (t .places) s o (kindNumber (step .kind)) node value) false))) .state .counts .pops
+          → (cond a (making s false)
+          (cond b (making s true) (making (taken (t .places) s o (kindNumber (step .kind)) node value) false))) .state .counts .pops
           ≡ s .counts .pops
       go true b = refl
       go false true = refl

@@ -82,7 +82,8 @@ module _ (t : Task) where
       }
 
   -- a taken place queued, or not
-  pub fit-queued : (s : State) (c : Counts) (i : ℕ) (b : Bool) → Fit t s → c .taken ≡ s .counts .taken → c .records ≡ s .counts .records → i < s .counts .taken
+  pub fit-queued : (s : State) (c : Counts) (i : ℕ) (b : Bool) → Fit t s → c .taken ≡ s .counts .taken → c .records ≡ s .counts .records
+      → i < s .counts .taken
       → Fit t (stateOf (putQueued (t .places) (s .work) i b) c)
   fit-queued s c i b h taken records low = record {
     room = put-queued-room (t .places) (s .work) i b (h .room);
@@ -121,7 +122,8 @@ module _ (t : Task) where
           fit-beside s (recordPut floats r (node .root) (node .length)) (tookRecord (s .counts)) h (record-beside floats r (node .root) (node .length))
           (record-length floats r (node .root) (node .length)) refl (omega (arith, l))
 
-  fit-kept : (s : State) (i : ℕ) (node : Node) → Fit t s → s .counts .records < s .counts .taken → i < s .counts .taken → Fit t (kept (t .places) s i node)
+  fit-kept : (s : State) (i : ℕ) (node : Node) → Fit t s → s .counts .records < s .counts .taken → i < s .counts .taken
+      → Fit t (kept (t .places) s i node)
   unfolding kept queued
   fit-kept s i node h l low = go (isBeaten s node)
     where

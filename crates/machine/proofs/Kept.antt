@@ -32,7 +32,8 @@ use Rattle.machine.specs.declared.Origin.{Origin}
 use Rattle.machine.specs.declared.Finish.the-variants.{Arrived, Emptied, Filled, Stopped}
 use Rattle.machine.specs.declared.Outcome.{Outcome}
 use Rattle.machine.specs.declared.Outcome.the-variants.{Goes, Ends}
-use Rattle.places.specs.Layout.{floatsPerPlace, wordsPerPlace, polygonCell, seedKind, Work, workOf, wordAt, nodeIn, nodeAt, stepAt, parentAt, depthAt, numberAt}
+use Rattle.places.specs.Layout.{floatsPerPlace, wordsPerPlace, polygonCell, seedKind, Work, workOf, wordAt, nodeIn, nodeAt, stepAt, parentAt, depthAt}
+use Rattle.places.specs.Layout.{numberAt}
 use Rattle.places.specs.Layout.{fAt, isQueued, putNode, recordFor, recordPut, distancePut, putQueued, leastIn}
 use Rattle.machine.specs.Search.{State, stateOf, tookPlace, tookRecord, counted}
 use Rattle.machine.specs.Search as search
@@ -136,7 +137,8 @@ module _ (plan vs ps : List ℕ) (t : Task) (seed : Node) where
 
   -- ---- the queue
 
-  pub sound-queued : (s : State) (c : Counts) (i : ℕ) (b : Bool) → Sound plan vs ps t seed s → c .taken ≡ s .counts .taken → c .records ≡ s .counts .records
+  pub sound-queued : (s : State) (c : Counts) (i : ℕ) (b : Bool) → Sound plan vs ps t seed s → c .taken ≡ s .counts .taken
+      → c .records ≡ s .counts .records
       → i < s .counts .taken → T (not (isNan (fAt (s .work) i)))
       → Sound plan vs ps t seed (stateOf (putQueued n (s .work) i b) c)
   sound-queued s c i b h taken records low number = record {
@@ -156,7 +158,8 @@ module _ (plan vs ps : List ℕ) (t : Task) (seed : Node) where
       few : n ≤ none
       few = omega (arith, h .fit .room .few)
 
-      queued-number : (j : ℕ) → j < n → (j < i) ⊎ ((j ≡ i) ⊎ (i < j)) → put (isQueued n (s .work)) i b j ≡ true → T (not (isNan (fAt (s .work) j)))
+      queued-number : (j : ℕ) → j < n → (j < i) ⊎ ((j ≡ i) ⊎ (i < j)) → put (isQueued n (s .work)) i b j ≡ true
+          → T (not (isNan (fAt (s .work) j)))
       queued-number j l (inl d) q = h .no-nan j l (sym (put-other (isQueued n (s .work)) i b j (λ e. omega arith)) ∙ q)
       queued-number j l (inr (inl e)) q = subst (λ (m : ℕ). T (not (isNan (fAt (s .work) m)))) (sym e) number
       queued-number j l (inr (inr d)) q = h .no-nan j l (sym (put-other (isQueued n (s .work)) i b j (λ e. omega arith)) ∙ q)
@@ -324,7 +327,8 @@ module _ (plan vs ps : List ℕ) (t : Task) (seed : Node) where
       parent-low zero l = omega (arith, h .seed-parent, h .some)
       parent-low (suc j) l = omega (arith, h .entered (suc j) (omega arith) l .lower, l)
 
-      lefts-below : (j : ℕ) → j < i → wordAt (new .words) (parentAt (s .work) j) polygonCell ≡ wordAt (s .work .words) (parentAt (s .work) j) polygonCell
+      lefts-below : (j : ℕ) → j < i → wordAt (new .words) (parentAt (s .work) j) polygonCell
+          ≡ wordAt (s .work .words) (parentAt (s .work) j) polygonCell
       lefts-below j l = words-below (parentAt (s .work) j) (parent-low j l) polygonCell (omega arith)
 
       pub node-below : (j : ℕ) → j < i → nodeAt new j ≡ nodeAt (s .work) j

@@ -138,7 +138,10 @@ module _ (root : Point) (r : ℕ) where
 
   on-placed : (s : State) (o : Origin) (kind : ℕ) (node : Node) (f : Float) → OnRecord s root r → OnRecord (placed s o kind node f) root r
   unfolding placed tookPlace
-  on-placed s o kind node f h = record { found = record-for-put (s .work .floats) (s .counts .taken) node f (s .counts .records) root ∙ h .found; low = h .low }
+  on-placed s o kind node f h = record {
+    found = record-for-put (s .work .floats) (s .counts .taken) node f (s .counts .records) root ∙ h .found;
+    low = h .low;
+  }
 
   pub on-taken : (n : ℕ) (s : State) (o : Origin) (kind : ℕ) (node : Node) (f : Float) → OnRecord s root r → OnRecord (taken n s o kind node f) root r
   unfolding taken

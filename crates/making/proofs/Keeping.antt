@@ -47,7 +47,8 @@ module _ (n : ℕ) (s : State) (i : ℕ) (node : Node) {r : ℕ} (found : r ≡ 
   abbrev with-it : List Float → List ℕ
   with-it fs = queueOf (column fs 11 7) n (put (queuedIn n (s .work .queue)) i true) (s .work .queue)
 
-  pub keeps-none : r < s .counts .records → {d : Float} → d ≡ recordDistance (s .work .floats) r → lt d (node .length) ≡ true → s ≡ kept n s i node
+  pub keeps-none : r < s .counts .records → {d : Float} → d ≡ recordDistance (s .work .floats) r → lt d (node .length) ≡ true
+      → s ≡ kept n s i node
   unfolding kept beatenIn
   keeps-none l told less = rw (← found, lt-ltb _ _ l, ← told, less)
 
@@ -69,7 +70,8 @@ pub keeps-number : (fs : List Float) (records : ℕ) (root old : Point) {same : 
 keeps-number fs records root old e s found = sym (record-for-equal fs records root old (sym e ∙ s) ∙ found)
 
 -- there is a row for it
-pub record-row : (fs : List Float) (records : ℕ) (root : Point) {r : ℕ} → r ≡ recordFor fs records root → (n : ℕ) → records < n → n * 11 ≤ length fs
+pub record-row : (fs : List Float) (records : ℕ) (root : Point) {r : ℕ} → r ≡ recordFor fs records root → (n : ℕ) → records < n
+    → n * 11 ≤ length fs
     → (r + 1) * 11 ≤ length fs
 record-row fs records root found n l room = omega (arith, record-for-le fs records root, found)
 
@@ -85,7 +87,8 @@ module _ (n : ℕ) (few : n ≤ 4096) (fs : List Float) (qs : List ℕ) (tree : 
 -- ---- a place is taken
 
 -- and after a node was put at the next place
-pub tree-on-node : {t : Task} {s : State} → Fit t s → (node : Node) (f : Float) {fs' : List Float} → fs' ≡ putFloats (s .work .floats) (s .counts .taken) node f
+pub tree-on-node : {t : Task} {s : State} → Fit t s → (node : Node) (f : Float) {fs' : List Float}
+    → fs' ≡ putFloats (s .work .floats) (s .counts .taken) node f
     → Tree (column fs' 11 7) (t .places) (queuedIn (t .places) (s .work .queue)) (s .work .queue)
 tree-on-node {t} {s} fit node f e =
     let few : t .places ≤ none = omega (arith, fit .room .few) in
@@ -123,6 +126,7 @@ module _ (vertices : List Point) (t : Task) (s : State) (from : Origin) (step : 
     makes-full b l = rw (← entered, ← e, long, ← guessed, ← g, b, le-leb _ _ l)
 
     pub makes-one : b ≡ false → s .counts .taken < t .places → {kind : ℕ} → kind ≡ kindNumber (step .kind)
-        → {after : State} → after ≡ taken (t .places) s from kind node (add binary32 (node .length) h) → making after false ≡ made vertices t s from step
+        → {after : State} → after ≡ taken (t .places) s from kind node (add binary32 (node .length) h)
+        → making after false ≡ made vertices t s from step
     unfolding made
     makes-one b l k m = rw (m, k, ← entered, ← e, long, ← guessed, ← g, b, lt-leb _ _ l)

@@ -1,13 +1,12 @@
 -- The loops over a node's edges and over an edge's parts: what was to be made is what is left to be made. Assumes nothing.
-use Prim.Native.Nat.{ℕ, suc, _+_, _≤_, _<_}
-use native.Mathlib.Numerals.{add-one}
+use Prim.Native.Nat.{ℕ, _+_, _≤_, _<_}
 use native.Mathlib.Omega.{arith}
 use mathlib.Core.Path.{_≡_, refl, sym, ap, ap₂, _∙_, subst}
 use mathlib.Core.Bool.{Bool, true, false, cond, not}
 use mathlib.Core.List.{List, [], _++_}
 use borrow.Author.Tests.{not-true, not-false}
 use lib.Dec.{eqb}
-use lib.ListN.{length, drop}
+use lib.ListN.{length}
 use Rattle.cut.specs.declared.SuccessorType.{SuccessorType}
 use Rattle.walk.specs.declared.Walked.{Walked}
 use Rattle.walk.specs.declared.round.Round.{Round}
@@ -22,7 +21,8 @@ use Rattle.steps.specs.declared.Permitted.the-variants.{Yes, No}
 use Rattle.steps.specs.Steps.{andThen, stepOf, stepsOver, stepsFrom}
 use Rattle.going.specs.Going.{walkedOn, beginRound, leftIn, Yielded, Goes}
 use Rattle.going.proofs.Rounds.{on-yields, begin-goes, next-goes, edgesLeft, fewer-left}
-use Rattle.going.proofs.Left.{next-part, no-part, left-begin, left-over, steps-left-next}
+use Rattle.going.proofs.Left.{left-begin, left-over, steps-left-next}
+use Rattle.going.proofs.Parts.{fromPart as stepsFromPart, from-next, from-none}
 use Rattle.machine.specs.declared.Task.{Task}
 use Rattle.machine.specs.declared.Origin.{Origin}
 use Rattle.machine.specs.Search.{State, Making, making, madeIf, madeAll}
@@ -100,7 +100,7 @@ one-of-three yielded k l = omega (arith, l, yielded .few)
 
 -- from the k-th on
 abbrev pub fromPart : Floor → Origin → ℕ → Walked → ℕ → List Step
-fromPart f o edge walked k = stepsOver f (o .node) (successorsOn edge (drop k (partsOf walked)))
+fromPart f o edge walked k = stepsFromPart f (o .node) edge walked k
 
 -- those of an edge are made, up to the k-th
 pub record Parts (f : Floor) (t : Task) (o : Origin) (was at : State) (edge : ℕ) (walked : Walked) (k : ℕ) : Type 0 where
@@ -118,17 +118,15 @@ module _ {f : Floor} {t : Task} {o : Origin} {was at : State} {edge : ℕ} {walk
   abbrev over : Permitted
   over = stepOf f (o .node) (record { edge = edge; part = partAt (walked .parts) k })
 
-  from-none : walked .count ≤ k → fromPart f o edge walked k ≡ []
-  unfolding stepsOver
-  from-none l = rw (no-part walked (h .yielded) k l)
-
   -- by what the edge and what it yields are
-  on-edge-as : {is : ℕ} → edge ≡ is → {w : Walked} → walked ≡ w → madeAll f t was o (onEdge f o edge walked) ≡ madeAll f t was o (onEdge f o is w)
+  on-edge-as : {is : ℕ} → edge ≡ is → {w : Walked} → walked ≡ w
+      → madeAll f t was o (onEdge f o edge walked) ≡ madeAll f t was o (onEdge f o is w)
   on-edge-as e y = ap₂ (λ (i : ℕ) (x : Walked). madeAll f t was o (onEdge f o i x)) e y
 
-  pub parts-over : walked .count ≤ k → {is : ℕ} → edge ≡ is → {w : Walked} → walked ≡ w → making at false ≡ madeAll f t was o (onEdge f o is w)
+  pub parts-over : walked .count ≤ k → {is : ℕ} → edge ≡ is → {w : Walked} → walked ≡ w
+      → making at false ≡ madeAll f t was o (onEdge f o is w)
   parts-over l e y =
-      yet-none f t o was (onEdge f o edge walked) at (yet-same f t o was (onEdge f o edge walked) at (from-none l) (h .yet)) ∙ on-edge-as e y
+      yet-none f t o was (onEdge f o edge walked) at (yet-same f t o was (onEdge f o edge walked) at (from-none f (o .node) edge walked (h .yielded) k l) (h .yet)) ∙ on-edge-as e y
 
   in-front : (p : Permitted) (rest : List Step) → andThen p rest ≡ andThen p [] ++ rest
   in-front (Yes step) rest = refl
@@ -138,12 +136,11 @@ module _ {f : Floor} {t : Task} {o : Origin} {was at : State} {edge : ℕ} {walk
     abbrev one : List Step
     one = andThen over []
 
-    from-next : fromPart f o edge walked k ≡ one ++ fromPart f o edge walked (k + 1)
-    unfolding stepsOver
-    from-next = rw (next-part walked (h .yielded) k l, add-one k) (in-front over (fromPart f o edge walked (suc k)))
+    one-first : fromPart f o edge walked k ≡ one ++ fromPart f o edge walked (k + 1)
+    one-first = from-next f (o .node) edge walked (h .yielded) k l ∙ in-front over (fromPart f o edge walked (k + 1))
 
     front : Yet f t o was at (onEdge f o edge walked) (one ++ fromPart f o edge walked (k + 1))
-    front = yet-same f t o was (onEdge f o edge walked) at from-next (h .yet)
+    front = yet-same f t o was (onEdge f o edge walked) at one-first (h .yet)
 
     made-one : m ≡ madeAll f t at o one
     made-one = made ∙ made-alone f t o at over
@@ -224,7 +221,8 @@ module _ {plan vs ps : List ℕ} {t : Task} {o : Origin} {was at : State} {round
       pub loops-full : m .full ≡ true → m ≡ madeAll f t was o all
       loops-full e = yet-full f t o was all at this rest edge-first m made e
 
-      pub loops-next : m .full ≡ false → AsLong (m .state) at → {next : Round} → next ≡ nextOf round (walked .kind) → Loops plan vs ps t o was (m .state) next
+      pub loops-next : m .full ≡ false → AsLong (m .state) at → {next : Round} → next ≡ nextOf round (walked .kind)
+          → Loops plan vs ps t o was (m .state) next
       loops-next e long {next} n =
           subst (Loops plan vs ps t o was (m .state)) (sym n)
           (record {

@@ -40,7 +40,8 @@ module _ (f : Floor) (t : Task) (o : Origin) where
 
   -- ---- several
 
-  pub made-both : (s : State) (xs ys : List Step) → madeAll f t s o (xs ++ ys) ≡ unlessFull (madeAll f t s o xs) (madeAll f t (madeAll f t s o xs .state) o ys)
+  pub made-both : (s : State) (xs ys : List Step)
+      → madeAll f t s o (xs ++ ys) ≡ unlessFull (madeAll f t s o xs) (madeAll f t (madeAll f t s o xs .state) o ys)
   unfolding madeAll
   made-both s [] ys = refl
   made-both s (x ∷ xs) ys = go (m .full) refl (made-both (m .state) xs ys)
@@ -57,7 +58,8 @@ module _ (f : Floor) (t : Task) (o : Origin) where
       go false b e = e
 
   -- what each step keeps, all of them keep
-  pub each-keeps : (P : State → Type 0) → ((s : State) (step : Step) → P s → P (made (f .vertices) t s o step .state)) → (steps : List Step) (s : State)
+  pub each-keeps : (P : State → Type 0) → ((s : State) (step : Step) → P s → P (made (f .vertices) t s o step .state))
+      → (steps : List Step) (s : State)
       → P s → P (madeAll f t s o steps .state)
   unfolding madeAll
   each-keeps P keeps [] s h = h

@@ -60,7 +60,8 @@ module _ (n : ℕ) (w : Work) (i : ℕ) (b : Bool) where
 
 module _ (n : ℕ) (few : n ≤ none) (old : List Float) (t : List ℕ) (tree : Tree (column old floatsPerPlace fCell) n (queuedIn n t) t) where
   -- of each queued place the f is what it was
-  pub tree-stays : (new : List Float) → ((j : ℕ) → j < n → queuedIn n t j ≡ true → column new floatsPerPlace fCell j ≡ column old floatsPerPlace fCell j)
+  pub tree-stays : (new : List Float)
+      → ((j : ℕ) → j < n → queuedIn n t j ≡ true → column new floatsPerPlace fCell j ≡ column old floatsPerPlace fCell j)
       → Tree (column new floatsPerPlace fCell) n (queuedIn n t) t
   tree-stays new same =
       let was = column old floatsPerPlace fCell in

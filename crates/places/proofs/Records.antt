@@ -16,7 +16,8 @@ use Rattle.counts.proofs.Laws.{first-is, first-le, first-before, first-at, firs
 use Rattle.point.specs.declared.Point.{Point}
 use Rattle.point.specs.Point.{pointOf, sameOf}
 use Rattle.steps.specs.declared.Node.{Node}
-use Rattle.places.specs.Layout.{floatsPerPlace, recordXCell, recordYCell, distanceCell, floatAt, putFloats, recordRoot, recordFor, recordPut, distancePut}
+use Rattle.places.specs.Layout.{floatsPerPlace, recordXCell, recordYCell, distanceCell, floatAt, putFloats, recordRoot, recordFor, recordPut}
+use Rattle.places.specs.Layout.{distancePut}
 use Rattle.places.proofs.Rows.{puts-other, puts-same, floats-elsewhere}
 
 -- ---- roots by ==

@@ -33,7 +33,8 @@ module _ {A : Type 0} where
   puts-length l row k (x ∷ xs) = puts-length (set l (row + k) x) row (suc k) xs ∙ length-set l (row + k) x
 
   -- a cell before the first that is put or behind the last
-  pub puts-other : (l : List A) (row k : ℕ) (xs : List A) (c : ℕ) (d : A) → (c < row + k) ⊎ (row + k + length xs ≤ c) → getD (puts l row k xs) c d ≡ getD l c d
+  pub puts-other : (l : List A) (row k : ℕ) (xs : List A) (c : ℕ) (d : A) → (c < row + k) ⊎ (row + k + length xs ≤ c)
+      → getD (puts l row k xs) c d ≡ getD l c d
   unfolding puts
   puts-other l row k [] c d o = refl
   puts-other l row k (x ∷ xs) c d o =
@@ -134,7 +135,8 @@ module _ (floats : List Float) (i : ℕ) (node : Node) (f : Float) where
   put-floats-length = puts-length floats (i * floatsPerPlace) rightXCell _
 
   -- other rows stay, and so do this one's three cells of a distance record
-  pub floats-elsewhere : (j k : ℕ) → k < floatsPerPlace → ((j ≡ i → ⊥) ⊎ (recordXCell ≤ k)) → floatAt (putFloats floats i node f) j k ≡ floatAt floats j k
+  pub floats-elsewhere : (j k : ℕ) → k < floatsPerPlace → ((j ≡ i → ⊥) ⊎ (recordXCell ≤ k))
+      → floatAt (putFloats floats i node f) j k ≡ floatAt floats j k
   unfolding putFloats floatAt
   floats-elsewhere j k h o = puts-other floats (i * floatsPerPlace) rightXCell _ (j * floatsPerPlace + k) nan (go (which i j) o)
     where

@@ -98,7 +98,8 @@ unfolding isMarked marked
 marked-at l i v h = go (eqb i v) refl
   where
     apart : (i ≡ v → ⊥) → (b : Bool) → eqb (8 + i / 32) (8 + v / 32) ≡ b
-        → getD (set l (8 + i / 32) (bitOr (getD l (8 + i / 32) 0) (2 ^ (i % 32)))) (8 + v / 32) 0 / 2 ^ (v % 32) % 2 ≡ getD l (8 + v / 32) 0 / 2 ^ (v % 32) % 2
+        → getD (set l (8 + i / 32) (bitOr (getD l (8 + i / 32) 0) (2 ^ (i % 32)))) (8 + v / 32) 0 / 2 ^ (v % 32) % 2
+        ≡ getD l (8 + v / 32) 0 / 2 ^ (v % 32) % 2
     apart ne true e =
         let w = eqb-true (8 + i / 32) (8 + v / 32) e in
         rw (w, getD-set-same l (8 + v / 32) (bitOr (getD l (8 + v / 32) 0) (2 ^ (i % 32))) 0 h)

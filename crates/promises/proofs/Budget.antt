@@ -113,6 +113,7 @@ larger-budget-same s vs ps question budget w more out = go (lookOf s vs ps quest
     with-budget : ℕ → Look → Searched
     with-budget n look = ifInside look w out (λ from to. betweenOf (floorOf s vs ps) (tripOf (questionOf question) from to) n w out)
 
-    go : (look : Look) → ((steps : ℕ) → with-budget budget look .answer ≡ Spent steps → ⊥) → with-budget (budget + more) look ≡ with-budget budget look
+    go : (look : Look) → ((steps : ℕ) → with-budget budget look .answer ≡ Spent steps → ⊥)
+        → with-budget (budget + more) look ≡ with-budget budget look
     go (Inside from to) h = between-longer (floorOf s vs ps) (tripOf (questionOf question) from to) w out budget more h
     go (Refused r) h = refl

@@ -197,7 +197,8 @@ geometry-project-onto-coincides κs a z y e f p q = p ∙ sym q
 pub geometry-turning-point-coincides : Coincide {S = ℕ × List ℕ} geometry-turning-point.Post (λ z e. (z, e .1 .1 .1 .1 .1 .1 .1 .1 .0 .now))
 geometry-turning-point-coincides κs a z y e f p q = pair (p .0 ∙ sym (q .0)) (p .1 ∙ sym (q .1))
 
-pub geometry-line-intersect-segment-coincides : Coincide {S = ℕ × List ℕ} geometry-line-intersect-segment.Post (λ z e. (z, e .1 .1 .1 .1 .1 .1 .1 .1 .0 .now))
+pub geometry-line-intersect-segment-coincides : Coincide {S = ℕ × List ℕ} geometry-line-intersect-segment.Post
+    (λ z e. (z, e .1 .1 .1 .1 .1 .1 .1 .1 .0 .now))
 geometry-line-intersect-segment-coincides κs a z y e f p q = pair (p .0 ∙ sym (q .0)) (p .1 ∙ sym (q .1))
 
 pub geometry-clip-to-cone-coincides : Coincide {S = ℕ × List ℕ} geometry-clip-to-cone.Post (λ z e. (z, e .1 .1 .1 .1 .1 .1 .1 .1 .1 .1 .0 .now))

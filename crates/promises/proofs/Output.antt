@@ -114,7 +114,8 @@ module _ (search : List ℕ → Searched) where
 
     -- an answer 0 has a route that fits
     pub found-tells : TellsTheSame search → (steps n : ℕ) → search out .answer ≡ Found steps n → Route steps n search × (n ≤ length out)
-    found-tells (without answer work none h) steps n e = absurd (no-route-found answer none steps n (sym (answer-is (searchedOf answer work out) (h out)) ∙ e))
+    found-tells (without answer work none h) steps n e =
+        absurd (no-route-found answer none steps n (sym (answer-is (searchedOf answer work out) (h out)) ∙ e))
     found-tells (with-route bytes counted work h) steps n e = go (ltb (length out) (length bytes)) refl
       where
         told-is : written bytes counted out .answer ≡ Found steps n
@@ -154,7 +155,8 @@ module _ (search : List ℕ → Searched) where
             absurd (found-not-short counted (length bytes) steps (sym fits ∙ told-is))
 
     -- and back
-    pub route-fits : (steps n : ℕ) (r : Route steps n search) → n ≤ length out → search out ≡ searchedOf (Found steps n) (r .work) (r .bytes ++ drop n out)
+    pub route-fits : (steps n : ℕ) (r : Route steps n search) → n ≤ length out
+        → search out ≡ searchedOf (Found steps n) (r .work) (r .bytes ++ drop n out)
     route-fits steps n r l =
         r .writes out
         ∙ ap (withWork (r .work))

@@ -114,7 +114,8 @@ search-default-leaves κs a z e p h =
 pub read-out-leaves : UnchangedUnlessZero read-out.Post readoutNumber (λ a. a .1 .1 .1 .1 .0 .now) (λ e. e .1 .1 .1 .1 .0 .now)
 read-out-leaves κs a z e p h =
     p .1
-    ∙ read-out-leaves-points 8 (a .0 .now) (a .1 .0 .now) (a .1 .1 .0 .now) (a .1 .1 .1 .0 .now) (a .1 .1 .1 .1 .0 .now) (λ k. h (ap readoutNumber (p .0) ∙ k))
+    ∙ read-out-leaves-points 8 (a .0 .now) (a .1 .0 .now) (a .1 .1 .0 .now) (a .1 .1 .1 .0 .now) (a .1 .1 .1 .1 .0 .now)
+    (λ k. h (ap readoutNumber (p .0) ∙ k))
 
 pub cart-read-out-leaves : UnchangedUnlessZero cart-read-out.Post (λ z. z) (λ a. a .1 .1 .1 .1 .0 .now) (λ e. e .1 .1 .1 .1 .0 .now)
 cart-read-out-leaves κs a z e p h =

@@ -98,7 +98,8 @@ module _ {plan vs ps : List ℕ} (g : Ground plan vs ps) (bytes : Bytes ps) (tri
   unfolding betweenOf
   between-wide steps = go (eqb (placesIn w) 0) refl
     where
-      go : (b : Bool) → eqb (placesIn w) 0 ≡ b → cond {A = Searched} b (searchedOf NoPlaces w out) (routed f task budget w out) .answer ≡ Short steps → ⊥
+      go : (b : Bool) → eqb (placesIn w) 0 ≡ b → cond {A = Searched} b (searchedOf NoPlaces w out) (routed f task budget w out) .answer
+          ≡ Short steps → ⊥
       go true same e = let z : _≡_ {A = ℕ} 0 1 = cc in omega arith
       go false same e = routed-wide same steps e
 

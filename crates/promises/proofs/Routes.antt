@@ -59,7 +59,8 @@ module _ (w : World Node) (bytes : List ℕ) (true-route : TrueRoute w bytes) wh
 
 -- ---- what is found
 
-module _ {plan vs ps : List ℕ} (g : Ground plan vs ps) (trip : Trip) (listed : trip .from < polygonCountIn plan) (w : Work) (budget : ℕ) (out : List ℕ) where
+module _ {plan vs ps : List ℕ} (g : Ground plan vs ps) (trip : Trip) (listed : trip .from < polygonCountIn plan) (w : Work) (budget : ℕ)
+    (out : List ℕ) where
   abbrev f : Floor
   f = floorIn plan vs ps
 
@@ -111,7 +112,8 @@ module _ {plan vs ps : List ℕ} (g : Ground plan vs ps) (trip : Trip) (listed :
             written-is-true world (straightBytes trip) (straight-is-true plan vs ps task (eqb-true (trip .from) (trip .to) same)) 0 out steps n e
         go false same e = told-is-true steps n e
 
-  between-is-true : (steps n : ℕ) → betweenOf f trip budget w out .answer ≡ Found steps n → TrueRoute world (take n (betweenOf f trip budget w out .out))
+  between-is-true : (steps n : ℕ) → betweenOf f trip budget w out .answer ≡ Found steps n
+      → TrueRoute world (take n (betweenOf f trip budget w out .out))
   unfolding betweenOf
   between-is-true steps n = go (eqb (placesIn w) 0) refl
     where

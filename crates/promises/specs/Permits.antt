@@ -16,7 +16,8 @@ abbrev pub Coincide : {L A Z E S : Type 0} → (L → A → Z → E → Type 0) 
 Coincide {L} {A} {Z} {E} permits seen = (κs : L) (a : A) (z y : Z) (e f : E) → permits κs a z e → permits κs a y f → seen z e ≡ seen y f
 
 -- What two contracts permit is the same, where the second gets the arguments of the first as `given` has them.
-abbrev pub Agree : {L A Z E M B Y F S : Type 0} → (L → A → Z → E → Type 0) → (Z → E → S) → (M → B → Y → F → Type 0) → (Y → F → S) → (A → B) → Type 0
+abbrev pub Agree : {L A Z E M B Y F S : Type 0} → (L → A → Z → E → Type 0) → (Z → E → S) → (M → B → Y → F → Type 0)
+    → (Y → F → S) → (A → B) → Type 0
 Agree {L} {A} {Z} {E} {M} {B} {Y} {F} permits seen permits-too seen-too given =
     (κs : L) (ιs : M) (a : A) (z : Z) (y : Y) (e : E) (f : F) → permits κs a z e → permits-too ιs (given a) y f → seen z e ≡ seen-too y f
 
@@ -39,4 +40,5 @@ SeenInC = ℕ × List Float × List ℕ × List ℕ × List ℕ × ℕ × ℕ
 
 -- "Other than 0, nothing in the output changes": whatever a contract permits with another number than 0 leaves this as it was.
 abbrev pub UnchangedUnlessZero : {L A Z E S : Type 0} → (L → A → Z → E → Type 0) → (Z → ℕ) → (A → S) → (E → S) → Type 0
-UnchangedUnlessZero {L} {A} {Z} {E} permits number before after = (κs : L) (a : A) (z : Z) (e : E) → permits κs a z e → (number z ≡ 0 → ⊥) → after e ≡ before a
+UnchangedUnlessZero {L} {A} {Z} {E} permits number before after =
+    (κs : L) (a : A) (z : Z) (e : E) → permits κs a z e → (number z ≡ 0 → ⊥) → after e ≡ before a

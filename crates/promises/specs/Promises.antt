@@ -58,7 +58,8 @@ NoRoute (Short steps) = ⊥
 -- Whatever output it is lent, a search gives the same answer with no route and leaves the output, or has the same route.
 pub data TellsTheSame (search : List ℕ → Searched) : Type 0 where
   without : (answer : Answer) (work : Work) → NoRoute answer → ((out : List ℕ) → search out ≡ searchedOf answer work out) → TellsTheSame search
-  with-route : (bytes : List ℕ) (steps : ℕ) (work : Work) → ((out : List ℕ) → search out ≡ withWork work (written bytes steps out)) → TellsTheSame search
+  with-route : (bytes : List ℕ) (steps : ℕ) (work : Work) → ((out : List ℕ) → search out ≡ withWork work (written bytes steps out))
+      → TellsTheSame search
 
 -- the same answer, the same buffers and the same n bytes in front
 pub record SameRoute (n : ℕ) (a b : Searched) : Type 0 where
@@ -106,7 +107,8 @@ module _ (slots : ℕ) (vertices polygons question : List ℕ) (budget : ℕ) (w
   -- "13: output too short": with 32 × (N + 1) bytes of room it never comes.
   abbrev pub WideIsNeverShort : Type 0
   WideIsNeverShort =
-      0 < slots → slots ≤ 16 → Bytes polygons → (out : List ℕ) → 32 * (placesIn work + 1) ≤ length out → (steps : ℕ) → search out .answer ≡ Short steps → ⊥
+      0 < slots → slots ≤ 16 → Bytes polygons → (out : List ℕ) → 32 * (placesIn work + 1) ≤ length out → (steps : ℕ)
+      → search out .answer ≡ Short steps → ⊥
 
   -- Where a search does not end by its budget, every larger budget gives the same answer, the same buffers and the same output: so where it answers 0, it
   -- answers 0 with the same bytes and the same counted steps.
@@ -118,7 +120,8 @@ module _ (slots : ℕ) (vertices polygons question : List ℕ) (budget : ℕ) (w
   -- Where a search answers 0, every larger output gets the answer 0 too, with the same counted steps, the same buffers and the same bytes.
   abbrev pub LargerOutputSame : Type 0
   LargerOutputSame =
-      (out wider : List ℕ) → length out ≤ length wider → (steps n : ℕ) → search out .answer ≡ Found steps n → SameRoute n (search out) (search wider)
+      (out wider : List ℕ) → length out ≤ length wider → (steps n : ℕ) → search out .answer ≡ Found steps n
+      → SameRoute n (search out) (search wider)
 
   -- "Other than 0, nothing in the output changes."
   abbrev pub RefusalLeavesOutput : Type 0
@@ -126,7 +129,8 @@ module _ (slots : ℕ) (vertices polygons question : List ℕ) (budget : ℕ) (w
 
   -- "Up to 10 the work buffers stay too": where floor or question is refused,
   abbrev pub RefusedLeavesBuffers : Type 0
-  RefusedLeavesBuffers = (out : List ℕ) (r : Refusal) → lookOf slots vertices polygons question ≡ Refused r → search out ≡ searchedOf (Turned r) work out
+  RefusedLeavesBuffers =
+      (out : List ℕ) (r : Refusal) → lookOf slots vertices polygons question ≡ Refused r → search out ≡ searchedOf (Turned r) work out
 
   -- where there is no place,
   abbrev pub NoPlacesLeavesBuffers : Type 0
@@ -137,7 +141,8 @@ module _ (slots : ℕ) (vertices polygons question : List ℕ) (budget : ℕ) (w
   -- and "Start and goal in one polygon: found, no steps, work buffers untouched."
   abbrev pub OnePolygonLeavesBuffers : Type 0
   OnePolygonLeavesBuffers =
-      (out : List ℕ) (from to : ℕ) → lookOf slots vertices polygons question ≡ Inside from to → eqb (placesIn work) 0 ≡ false → eqb from to ≡ true
+      (out : List ℕ) (from to : ℕ) → lookOf slots vertices polygons question ≡ Inside from to → eqb (placesIn work) 0 ≡ false
+      → eqb from to ≡ true
       → search out .work ≡ work
 
 -- ---- the promise on a read-out
@@ -145,5 +150,6 @@ module _ (slots : ℕ) (vertices polygons question : List ℕ) (budget : ℕ) (w
 -- "Other than 0, nothing in the output changes": 13 and every refusal leave the points as they were.
 abbrev pub ReadOutLeavesPoints : Type 0
 ReadOutLeavesPoints =
-    (slots : ℕ) (vertices polygons question route : List ℕ) (out : List Float) → (readoutNumber (readoutOf slots vertices polygons question route out) ≡ 0 → ⊥)
+    (slots : ℕ) (vertices polygons question route : List ℕ) (out : List Float)
+    → (readoutNumber (readoutOf slots vertices polygons question route out) ≡ 0 → ⊥)
     → writtenOf slots vertices polygons question route out ≡ out

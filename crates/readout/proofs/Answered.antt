@@ -91,7 +91,8 @@ module _ (slots : ℕ) (vs ps question route : List ℕ) (out : List Float) {loo
         ∙ ap (λ (k : ℕ). pointsOf (worldOf (floorOf k vs ps) (questionOf question)) (questionOf question .goal) route) (h .slots-are)
 
     pub reads-inside : {r : Readout} {out' : List Float}
-        → (r ≡ answerIf (Read (judgeOf w route)) (pointsOf w (trip .goal) route) out) × (out' ≡ outIf (Read (judgeOf w route)) (pointsOf w (trip .goal) route) out)
+        → (r ≡ answerIf (Read (judgeOf w route)) (pointsOf w (trip .goal) route) out)
+        × (out' ≡ outIf (Read (judgeOf w route)) (pointsOf w (trip .goal) route) out)
         → (r ≡ readoutOf slots vs ps question route out) × (out' ≡ writtenOf slots vs ps question route out)
     unfolding readoutOf writtenOf
     reads-inside j = (

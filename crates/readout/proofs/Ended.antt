@@ -60,7 +60,8 @@ module _ (w : World Node) (file : List ℕ) where
   unfolding judgeEnd accepts
   end-accepts node i e = go (w .inGoal node) (sameBytes (recordAt file i) (w .endBytes node)) refl (is-accepted (judgeEnd w file node i) e)
     where
-      go : (g b : Bool) → sameBytes (recordAt file i) (w .endBytes node) ≡ b → accepts (cond (g && b) Accepted (NotEnd i)) → recordAt file i ≡ w .endBytes node
+      go : (g b : Bool) → sameBytes (recordAt file i) (w .endBytes node) ≡ b → accepts (cond (g && b) Accepted (NotEnd i))
+          → recordAt file i ≡ w .endBytes node
       go true true h a = same-true (recordAt file i) (w .endBytes node) h
       go true false h a = absurd a
       go false b h a = absurd a
@@ -154,7 +155,8 @@ end-word : (file : List ℕ) (at n : ℕ) (goal : Point) (len : Float) → at + 
 unfolding wordAt endBytes endWords wordsBytes
 end-word file at n goal len h small e =
     let l = drop at file in
-    let split : take 32 l ≡ take 4 l ++ take 28 (drop (at + 4) file) = take-add 4 28 l ∙ ap (λ (x : List ℕ). take 4 l ++ take 28 x) (drop-drop 4 at file) in
+    let split : take 32 l ≡ take 4 l ++ take 28 (drop (at + 4) file) = take-add 4 28 l
+    ∙ ap (λ (x : List ℕ). take 4 l ++ take 28 x) (drop-drop 4 at file) in
     let words = wordsBytes (n ∷ bits (goal .x) ∷ bits (goal .y) ∷ bits len ∷ 0 ∷ 0 ∷ 0 ∷ []) in
     let first =
     same-parts 4 (take 4 l) (take 28 (drop (at + 4) file)) (bytesOf 4 5) words (length-part 4 file at (omega arith)) (length-bytesOf 4 5) (sym split ∙ e) in

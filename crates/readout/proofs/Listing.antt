@@ -66,7 +66,8 @@ module _ {plan vs ps : List ℕ} (g : Ground plan vs ps) (trip : Trip) (file : L
   below : (v : ℕ) → v < length vs / 8 → ltb v (length vertices) ≡ true
   below v l = rw (vertex-count vs) (lt-ltb v (length vs / 8) l)
 
-  chain-leads : (left : ℕ) (node : Node) (i : ℕ) → i + left ≡ last → Follows plan vs ps trip file last node i → leads vertices file node i left ≡ true
+  chain-leads : (left : ℕ) (node : Node) (i : ℕ) → i + left ≡ last → Follows plan vs ps trip file last node i
+      → leads vertices file node i left ≡ true
   unfolding leads
   chain-leads zero node i e h = refl
   chain-leads (suc left) node i e h =
@@ -122,7 +123,8 @@ pub record Places (vertices : List Point) (trip : Trip) (file : List ℕ) (last 
   pub count : node .points + length (leftFrom vertices trip file last node i) ≡ length (pointsRead vertices trip file)
 
 module _ (vertices : List Point) (trip : Trip) (file : List ℕ) where
-  pub places-begin : Readable vertices trip file → (last : ℕ) → last ≡ length file / 32 - 1 → (out : List Float) {node : Node} → node ≡ seedOf trip
+  pub places-begin : Readable vertices trip file → (last : ℕ) → last ≡ length file / 32 - 1 → (out : List Float) {node : Node}
+      → node ≡ seedOf trip
       → Places vertices trip file last out out node 1
   unfolding pointsRead records
   places-begin h last e out b =
@@ -174,7 +176,8 @@ module _ (vertices : List Point) (trip : Trip) (file : List ℕ) where
       pub second-listed : node .second < length vertices
       second-listed = led .1 .0
 
-      pub places-on : {after : Node} {out' : List Float} → after ≡ next → out' ≡ putRoot out node after → Places vertices trip file last out₀ out' after (i + 1)
+      pub places-on : {after : Node} {out' : List Float} → after ≡ next → out' ≡ putRoot out node after
+          → Places vertices trip file last out₀ out' after (i + 1)
       places-on {out' = out'} k d =
           subst (λ (n : Node). Places vertices trip file last out₀ out' n (i + 1)) (sym k)
           (subst (λ (o : List Float). Places vertices trip file last out₀ o next (i + 1)) (sym (d ∙ ap (putRoot out node) k))
@@ -213,7 +216,8 @@ module _ (vertices : List Point) (trip : Trip) (file : List ℕ) where
           let n : last - i ≡ 0 = omega arith in
           rw n (along-end (trip .goal) node)
 
-      pub place-for-last : length (pointsRead vertices trip file) * 2 ≤ length out₀ → (node .points + length (lastPoints (trip .goal) node)) * 2 ≤ length out
+      pub place-for-last : length (pointsRead vertices trip file) * 2 ≤ length out₀
+          → (node .points + length (lastPoints (trip .goal) node)) * 2 ≤ length out
       place-for-last room =
           let n : length (leftFrom vertices trip file last node i) ≡ length (lastPoints (trip .goal) node) = ap length end-is in
           omega (arith, n, room, h .count, h .long)

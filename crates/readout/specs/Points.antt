@@ -30,7 +30,8 @@ module _ (w : World Node) (file : List ℕ) where
   -- the nodes that the records from i on lead to out of this one, with this many middle records left before the last one
   unfoldable pub chainFrom : Node → ℕ → ℕ → List Node
   chainFrom node i zero = []
-  chainFrom node i (suc left) = onto (findStep (w .stepsFrom node) (recordAt file i)) (λ step. w .enter node step ∷ chainFrom (w .enter node step) (i + 1) left)
+  chainFrom node i (suc left) =
+      onto (findStep (w .stepsFrom node) (recordAt file i)) (λ step. w .enter node step ∷ chainFrom (w .enter node step) (i + 1) left)
 
   -- the chain behind the seed, oldest first
   unfoldable pub chainOf : List Node

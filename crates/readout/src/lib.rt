@@ -160,7 +160,8 @@ pub fn read_out(
     route: &[u8],
     points: &mut [f32],
 ) -> Readout
-    ensures { λ r. ⌜ r ≡ readoutOf 8 (now (vertices .entry)) (now (polygons .entry)) (now (question .entry)) (now (route .entry)) (now (points .entry)) ⌝ }
+    ensures { λ r. ⌜ r ≡ readoutOf 8 (now (vertices .entry)) (now (polygons .entry)) (now (question .entry)) (now (route .entry))
+        (now (points .entry)) ⌝ }
     ensures { λ _.
         let before = now (points .entry) in
         ⌜ now (points .exit) ≡ writtenOf 8 (now (vertices .entry)) (now (polygons .entry)) (now (question .entry)) (now (route .entry)) before ⌝ }

@@ -47,7 +47,8 @@ module _ (f : Floor) (t : Task) (budget : ℕ) (w : Work) (out : List ℕ) where
   unfolding routed
   routes-straight e a o = rw (eq-eqb _ _ e, a, o)
 
-  pub routes-search : (t .trip .from ≡ t .trip .to → ⊥) → (e : Ending) → e ≡ searchedFrom f t budget w → {r : Answer} → r ≡ delivered (t .trip) e out .answer
+  pub routes-search : (t .trip .from ≡ t .trip .to → ⊥) → (e : Ending) → e ≡ searchedFrom f t budget w → {r : Answer}
+      → r ≡ delivered (t .trip) e out .answer
       → {out' : List ℕ} → out' ≡ delivered (t .trip) e out .out → searchedOf r (e .state .work) out' ≡ routed f t budget w out
   unfolding routed
   routes-search n e s a o = rw (ne-eqb _ _ n, a, o, ← s)
@@ -68,7 +69,8 @@ module _ (f : Floor) (trip : Trip) (budget : ℕ) (w : Work) (out : List ℕ) {n
   unfolding betweenOf
   between-none e = rw (← places, eq-eqb _ _ e)
 
-  pub between-on : (n ≡ 0 → ⊥) → {x : Searched} → x ≡ routed f (record { trip = trip; places = n }) budget w out → x ≡ betweenOf f trip budget w out
+  pub between-on : (n ≡ 0 → ⊥) → {x : Searched} → x ≡ routed f (record { trip = trip; places = n }) budget w out
+      → x ≡ betweenOf f trip budget w out
   unfolding betweenOf
   between-on e x = x ∙ rw (← places, ne-eqb _ _ e)
 
@@ -79,7 +81,8 @@ unfolding coordinateRight
 in-range x e = le-no-nan x limit (and-true (le (neg limit) x) (le x limit) e .1) .0
 
 -- a start that was accepted has no NaN
-pub start-self : (question : List ℕ) → questionRight question ≡ true → {start : Point} → start ≡ questionOf question .start → sameOf start start ≡ true
+pub start-self : (question : List ℕ) → questionRight question ≡ true → {start : Point} → start ≡ questionOf question .start
+    → sameOf start start ≡ true
 unfolding questionRight pointRight
 start-self question e {start} s =
     let q = questionOf question in

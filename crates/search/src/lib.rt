@@ -63,7 +63,8 @@ fn route_between(
     tree: &mut [u32],
     out: &mut [u8],
 ) -> Answer
-    requires { ⌜ Ground (now plan) (now vertices) (now polygons) × (trip .from < polygonCountIn (now plan)) × (sameOf (trip .start) (trip .start) ≡ true) ⌝ }
+    requires { ⌜ Ground (now plan) (now vertices) (now polygons) × (trip .from < polygonCountIn (now plan))
+        × (sameOf (trip .start) (trip .start) ≡ true) ⌝ }
     ensures { λ r.
         let f = floorIn (now (plan .entry)) (now (vertices .entry)) (now (polygons .entry)) in
         let before = workOf (now (floats .entry)) (now (words .entry)) (now (tree .entry)) in

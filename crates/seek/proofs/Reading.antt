@@ -1,5 +1,5 @@
--- A record is one of the steps of a node, word by word, exactly where its bytes are a step's; and then it is read as that step. Rests on the laws of records by value
--- (records, proofs/Read) and on it that a record holds every step whole (steps, proofs/World). Assumes nothing.
+-- A record is one of the steps of a node, word by word, exactly where its bytes are a step's; and then it is read as that step. Rests on the laws of
+-- records by value (records, proofs/Read) and on it that a record holds every step whole (steps, proofs/World). Assumes nothing.
 use Prim.Native.Nat.{ℕ, _+_, _*_, _≤_}
 use native.Mathlib.Omega.{arith}
 use mathlib.Core.Path.{_≡_, refl, sym, ap, _∙_}
@@ -73,20 +73,24 @@ module _ (file : List ℕ) (b : Bytes file) (i : ℕ) (inside : (i + 1) * 32 ≤
   step-asked : (s : Step) → Held s → isStepAt s file i ≡ sameBytes (recordAt file i) (stepBytes s)
   step-asked s h = asked-is-stood s file i ∙ step-stands s h file b i inside
 
-  found-among : (steps : List Step) → ((s : Step) → s ∈ steps → Held s) → isAmong steps file i ≡ true → findStep steps (recordAt file i) ≡ Found (stepIn file i)
+  found-among : (steps : List Step) → ((s : Step) → s ∈ steps → Held s) → isAmong steps file i ≡ true
+      → findStep steps (recordAt file i) ≡ Found (stepIn file i)
   unfolding isAmong findStep
   found-among [] held e = untrue e
   found-among (s ∷ steps) held e =
       let h = held s (List·Memᴰ·head refl) in
-      go (isStepAt s file i) (sym (step-asked s h)) (λ t. step-is-read s h file b i inside (same-true (recordAt file i) (stepBytes s) t)) (found-among steps (λ t m. held t (List·Memᴰ·tail m))) e
+      go (isStepAt s file i) (sym (step-asked s h)) (λ t. step-is-read s h file b i inside (same-true (recordAt file i) (stepBytes s) t))
+      (found-among steps (λ t m. held t (List·Memᴰ·tail m))) e
     where
       go : (a : Bool) → sameBytes (recordAt file i) (stepBytes s) ≡ a → (sameBytes (recordAt file i) (stepBytes s) ≡ true → stepIn file i ≡ s)
           → (isAmong steps file i ≡ true → findStep steps (recordAt file i) ≡ Found (stepIn file i))
-          → a || isAmong steps file i ≡ true → cond (sameBytes (recordAt file i) (stepBytes s)) (Found s) (findStep steps (recordAt file i)) ≡ Found (stepIn file i)
+          → a || isAmong steps file i ≡ true → cond (sameBytes (recordAt file i) (stepBytes s)) (Found s) (findStep steps (recordAt file i))
+          ≡ Found (stepIn file i)
       go true t read below e = rw t (ap Found (sym (read t)))
       go false t read below e = rw t (below e)
 
-  missing-among : (steps : List Step) → ((s : Step) → s ∈ steps → Held s) → isAmong steps file i ≡ false → findStep steps (recordAt file i) ≡ Missing
+  missing-among : (steps : List Step) → ((s : Step) → s ∈ steps → Held s) → isAmong steps file i ≡ false
+      → findStep steps (recordAt file i) ≡ Missing
   unfolding isAmong findStep
   missing-among [] held e = refl
   missing-among (s ∷ steps) held e =
@@ -99,14 +103,17 @@ module _ (file : List ℕ) (b : Bytes file) (i : ℕ) (inside : (i + 1) * 32 ≤
 
   module _ (s : ℕ) (vs ps : List ℕ) (floor : Bytes ps) (goal : ℕ) (node : Node) where
     -- the record that was found to be a step is read as that step
-    pub is-found : isAmong (stepsFrom (floorOf s vs ps) goal node) file i ≡ true → findStep (stepsFrom (floorOf s vs ps) goal node) (recordAt file i) ≡ Found (stepIn file i)
+    pub is-found : isAmong (stepsFrom (floorOf s vs ps) goal node) file i ≡ true
+        → findStep (stepsFrom (floorOf s vs ps) goal node) (recordAt file i) ≡ Found (stepIn file i)
     is-found = found-among (stepsFrom (floorOf s vs ps) goal node) (steps-are-held s vs ps floor goal node)
 
-    pub is-missing : isAmong (stepsFrom (floorOf s vs ps) goal node) file i ≡ false → findStep (stepsFrom (floorOf s vs ps) goal node) (recordAt file i) ≡ Missing
+    pub is-missing : isAmong (stepsFrom (floorOf s vs ps) goal node) file i ≡ false
+        → findStep (stepsFrom (floorOf s vs ps) goal node) (recordAt file i) ≡ Missing
     is-missing = missing-among (stepsFrom (floorOf s vs ps) goal node) (steps-are-held s vs ps floor goal node)
 
     -- so is one that is known to be a step
-    pub is-read : (findStep (stepsFrom (floorOf s vs ps) goal node) (recordAt file i) ≡ Missing → ⊥) → findStep (stepsFrom (floorOf s vs ps) goal node) (recordAt file i) ≡ Found (stepIn file i)
+    pub is-read : (findStep (stepsFrom (floorOf s vs ps) goal node) (recordAt file i) ≡ Missing → ⊥)
+        → findStep (stepsFrom (floorOf s vs ps) goal node) (recordAt file i) ≡ Found (stepIn file i)
     is-read some = go (findStep (stepsFrom (floorOf s vs ps) goal node) (recordAt file i)) refl
       where
         go : (x : Sought) → findStep (stepsFrom (floorOf s vs ps) goal node) (recordAt file i) ≡ x → x ≡ Found (stepIn file i)

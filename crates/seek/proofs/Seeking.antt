@@ -124,7 +124,8 @@ module _ (file : List ℕ) (i : ℕ) where
 
 -- ---- round the polygon
 
-pub none-in-goal : (f : Floor) (goal : ℕ) (node : Node) (file : List ℕ) (i : ℕ) → node .polygon ≡ goal → isAmong (stepsFrom f goal node) file i ≡ false
+pub none-in-goal : (f : Floor) (goal : ℕ) (node : Node) (file : List ℕ) (i : ℕ) → node .polygon ≡ goal
+    → isAmong (stepsFrom f goal node) file i ≡ false
 unfolding stepsFrom isAmong
 none-in-goal f goal node file i e = rw (eq-eqb (node .polygon) goal e)
 
@@ -143,7 +144,8 @@ module _ (plan vs ps : List ℕ) (node : Node) (h : Stands plan vs ps node) (fil
   -- ---- the parts of one edge
 
   -- over an edge that the record does not name, none of its steps is it
-  pub none-over : (edge : ℕ) → edgeStands its edge file i ≡ false → (parts : List Part) → isAmong (stepsOver f node (successorsOn edge parts)) file i ≡ false
+  pub none-over : (edge : ℕ) → edgeStands its edge file i ≡ false → (parts : List Part)
+      → isAmong (stepsOver f node (successorsOn edge parts)) file i ≡ false
   unfolding stepsOver isAmong
   none-over edge n [] = refl
   none-over edge n (part ∷ parts) =

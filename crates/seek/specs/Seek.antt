@@ -1,5 +1,5 @@
--- Whether a record is a step, word by word, and whether it is one of a node's. proofs/Seeking says that it is the step over a part exactly where it is document 01's,
--- and proofs/Reading that a record is one of the steps exactly where its bytes are. Assumes nothing.
+-- Whether a record is a step, word by word, and whether it is one of a node's. proofs/Seeking says that it is the step over a part exactly where it is
+-- document 01's, and proofs/Reading that a record is one of the steps exactly where its bytes are. Assumes nothing.
 use Prim.Native.Nat.{ℕ}
 use mathlib.Core.Bool.{Bool, false, _&&_, _||_, cond}
 use mathlib.Core.List.{List, [], _∷_}
@@ -31,8 +31,8 @@ isAmong (s ∷ steps) file i = isStepAt s file i || isAmong steps file i
 
 -- ---- the step over a part of an edge, in the order in which the code asks
 
--- what the record says of the edge, whichever part of it is stepped over: an edge of the polygon q that is no wall, its vertices and its neighbour. No other edge
--- of a polygon begins with its first vertex, so one edge at most is gone into further.
+-- what the record says of the edge, whichever part of it is stepped over: an edge of the polygon q that is no wall, its vertices and its neighbour. No
+-- other edge of a polygon begins with its first vertex, so one edge at most is gone into further.
 unfoldable pub edgeStands : Polygon → ℕ → List ℕ → ℕ → Bool
 edgeStands q e file i =
     cond (eqb (neighbour q e) unused) false

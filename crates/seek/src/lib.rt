@@ -139,7 +139,8 @@ fn look_on_edge(
     i: usize,
 ) -> Looked
     requires { ⌜ Stands (now plan) (now vertices) (now polygons) node × Ground (now plan) (now vertices) (now polygons) ⌝ }
-    requires { ⌜ Goes (recordIn (now plan) (now polygons) (node .polygon)) node round × (isOverOf round ≡ false) × ((i + 1) * 32 ≤ length (now route)) ⌝ }
+    requires { ⌜ Goes (recordIn (now plan) (now polygons) (node .polygon)) node round × (isOverOf round ≡ false)
+        × ((i + 1) * 32 ≤ length (now route)) ⌝ }
     ensures { λ r.
         let f = floorIn (now (plan .entry)) (now (vertices .entry)) (now (polygons .entry)) in
         let walked = walkedOn f node round in

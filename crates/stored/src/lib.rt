@@ -6,7 +6,8 @@ ghost use mathlib.Core.Bool.{cond};
 ghost use lib.ListN.{length};
 ghost use Rattle.point.specs.Point.{plusOf};
 ghost use Rattle.plan.specs.Plan.{slotsIn};
-ghost use Rattle.stored.specs.Stored.{unused, vertexCount, origin, vertexAt, slotIn, recordIn, questionOf, corner, neighbour, cornerCount, cornerAfter, Lies};
+ghost use Rattle.stored.specs.Stored.{unused, vertexCount, origin, vertexAt, slotIn, recordIn, questionOf, corner, neighbour, cornerCount};
+ghost use Rattle.stored.specs.Stored.{cornerAfter, Lies};
 use plan::PLAN;
 use point::Point;
 

@@ -41,7 +41,8 @@ delivers e = (sym (ap (λ (t : Delivered). t .answer) e), sym (ap (λ (t : Deliv
 abbrev AnyDelivers : (List ℕ → Delivered) → Answer → List ℕ → Type 0
 AnyDelivers d r after = ((queue : List ℕ) → r ≡ d queue .answer) × ((queue : List ℕ) → after ≡ d queue .out)
 
-any-delivers : (d : List ℕ → Delivered) {r : Answer} {after : List ℕ} → ((queue : List ℕ) → d queue ≡ deliveredOf r after) → AnyDelivers d r after
+any-delivers : (d : List ℕ → Delivered) {r : Answer} {after : List ℕ} → ((queue : List ℕ) → d queue ≡ deliveredOf r after)
+    → AnyDelivers d r after
 any-delivers d e = ((λ queue. delivers (e queue) .0), (λ queue. delivers (e queue) .1))
 
 -- ---- one record

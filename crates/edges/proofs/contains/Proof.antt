@@ -41,7 +41,8 @@ asking c = c .before
 
 -- a used slot behind used ones is a corner
 used : (c : tie.Else1 Inv-loop μ-loop) → let l = reading (c .before) .before in
-    (k : ℕ) → k < l .loop .i + 1 → eqb (corner (recordIn (now (start l .args .plan)) (now (start l .args .polygons)) (start l .args .p)) k) unused ≡ false
+    (k : ℕ) → k < l .loop .i + 1 → eqb (corner (recordIn (now (start l .args .plan)) (now (start l .args .polygons)) (start l .args .p)) k) unused
+    ≡ false
 used c = let l = reading (c .before) .before in below-more _ _ (l .loop .inv .2) (rw (← c .before .corner .ensures, ne-eqb _ _ (c .if1 .left)))
 
 inside : (c : tie.Else1 Inv-loop μ-loop) → let l = reading (c .before) .before in

@@ -15,7 +15,8 @@ use Rattle.making.proofs.make_edge.Tie as tie
 
 abbrev Inv-loop : tie.InvT-loop
 Inv-loop vertices polygons plan task from view floats₀ words₀ tree₀ edge walked next counts₀ k₀ floats words tree counts k =
-    Parts (floorIn plan vertices polygons) task from (stateOf (workOf floats₀ words₀ tree₀) counts₀) (stateOf (workOf floats words tree) counts) edge walked k
+    Parts (floorIn plan vertices polygons) task from (stateOf (workOf floats₀ words₀ tree₀) counts₀) (stateOf (workOf floats words tree) counts)
+    edge walked k
 
 abbrev μ-loop : tie.MeasureT-loop
 μ-loop vertices polygons plan task from view floats₀ words₀ tree₀ edge walked next counts₀ k₀ floats words tree counts k =

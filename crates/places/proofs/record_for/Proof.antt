@@ -32,7 +32,8 @@ unfolding recordFor
 returns c =
     let at-record-root = c .before .before in
     let at-loop = at-record-root .before .before in
-    sym (first-is _ _ _ (omega arith) (at-loop .loop .inv .1) (λ l. rw (← at-record-root .record-root .ensures, ← c .before .same .ensures, c .if1 .taken)))
+    sym (first-is _ _ _ (omega arith) (at-loop .loop .inv .1)
+    (λ l. rw (← at-record-root .record-root .ensures, ← c .before .same .ensures, c .if1 .taken)))
 
 add-r : tie.Need-add-r Inv-loop μ-loop
 add-r c = omega arith

@@ -50,7 +50,8 @@ returns c =
     let read = c .before .before in
     let tripped = tripping (read .before) in
     let told = tripped .before in
-    reads-inside 8 _ _ _ _ _ (looking told .look-with .ensures .0) (told .before .from .given .1) (known told) (tripped .of .ensures) (read .read-route .ensures)
+    reads-inside 8 _ _ _ _ _ (looking told .look-with .ensures .0) (told .before .from .given .1) (known told) (tripped .of .ensures)
+    (read .read-route .ensures)
 
 -- ---- refused
 

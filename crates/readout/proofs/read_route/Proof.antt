@@ -73,5 +73,6 @@ returns-5 c = let told = c .before in read-end _ _ _ _ (sym (told .before .befor
 pub read-route-spec : {M : Type 1} → statement M
 read-route-spec =
     tie.close
-    (tie.spec (λ c κs. search needs) (λ c. search needs) list-route-requires (λ c. search needs) (λ c. search needs) (λ c. search needs) (λ c. search needs)
+    (tie.spec (λ c κs. search needs) (λ c. search needs) list-route-requires (λ c. search needs) (λ c. search needs) (λ c. search needs)
+    (λ c. search needs)
     (λ c. search needs) returns returns-2 returns-3 returns-4 returns-5)

@@ -17,4 +17,5 @@ returns-2 c = rw (← c .before .is-point .ensures, c .if1 .left)
 pub has-interval-spec : {M : Type 1} → statement M
 has-interval-spec =
     tie.close
-    (tie.spec (λ c. search needs) (λ c. search needs) (λ c κs. search needs) (λ c. search needs) (λ c. search needs) (λ c κs. search needs) returns returns-2)
+    (tie.spec (λ c. search needs) (λ c. search needs) (λ c κs. search needs) (λ c. search needs) (λ c. search needs) (λ c κs. search needs)
+    returns returns-2)

@@ -30,7 +30,9 @@ byte-of-requires c κs = search needs
 
 returns : tie.Need-returns Inv-loop μ-loop
 unfolding holdsOf
-returns c = sym (every-false _ _ (c .before .before .before .before .loop .i) (omega arith) (ne-eqb _ _ (λ e. c .if1 .taken (e ∙ sym (c .before .byte-of .ensures)))))
+returns c =
+    sym (every-false _ _ (c .before .before .before .before .loop .i) (omega arith)
+    (ne-eqb _ _ (λ e. c .if1 .taken (e ∙ sym (c .before .byte-of .ensures)))))
 
 add-i : tie.Need-add-i Inv-loop μ-loop
 add-i c = omega arith

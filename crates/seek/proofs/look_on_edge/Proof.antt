@@ -149,6 +149,7 @@ returns-3 c =
 pub look-on-edge-spec : {M : Type 1} → statement M
 look-on-edge-spec =
     tie.close
-    (tie.spec Inv-loop μ-loop edge-requires walk-requires (λ c κs. turns (start (c .before)) .taken-in) (λ c. search needs) is-over-requires returns (λ c. refl)
+    (tie.spec Inv-loop μ-loop edge-requires walk-requires (λ c κs. turns (start (c .before)) .taken-in) (λ c. search needs) is-over-requires returns
+    (λ c. refl)
     (λ c. omega (arith, few c)) few is-part-requires returns-2 (λ c. omega (arith, few (asking (c .before))))
     (λ c. omega (arith, asking (c .before) .loop-test .taken)) loop-again returns-3)
