@@ -18,7 +18,8 @@ use Rattle.point.specs.declared.Point.{Point}
 use Rattle.point.specs.declared.EdgeSide.{EdgeSide}
 use Rattle.point.specs.declared.EdgeSide.the-variants.{Left, Right, Edge}
 use Rattle.point.specs.Sides.{sideOf, sameSideOf}
-use Rattle.floor.specs.declared.Refusal.the-variants.{VertexLength, PolygonLength, Vertex, Corners as CornersFault, Links as LinksFault, Question, StartOutside, GoalOutside}
+use Rattle.floor.specs.declared.Refusal.the-variants.{VertexLength, PolygonLength, Vertex, Corners as CornersFault, Links as LinksFault}
+use Rattle.floor.specs.declared.Refusal.the-variants.{Question, StartOutside, GoalOutside}
 use Rattle.floor.specs.declared.FloorLook.{FloorLook}
 use Rattle.floor.specs.declared.FloorLook.the-variants.{Accepted as Sound, Faulty}
 use Rattle.floor.specs.declared.Look.{Look}
@@ -34,7 +35,8 @@ use Rattle.faults.proofs.Decided.{both, through, equal, length-decided, point-d
 -- ---- what each test decides
 
 pub whole-decided : (size most : ℕ) (bytes : List ℕ) → lengthRight size most bytes ≡ true ↔ Whole size most bytes
-whole-decided size most bytes = through (length-decided size most bytes) (λ h. record { whole = h .0; some = h .1 .0; few = h .1 .1 }) (λ w. (w .whole, (w .some, w .few)))
+whole-decided size most bytes =
+    through (length-decided size most bytes) (λ h. record { whole = h .0; some = h .1 .0; few = h .1 .1 }) (λ w. (w .whole, (w .some, w .few)))
 
 pub asked-decided : (question : List ℕ) → questionRight question ≡ true ↔ Asked question
 unfolding questionRight
@@ -51,11 +53,15 @@ side-decided Edge = ((λ _ e. subst (λ (s : EdgeSide). T (not (sameSideOf s Rig
 module _ (f : Floor) where
   pub vertices-told : TellsLowest (length (f .vertices)) (VertexRight f) (badVertex (f .vertices))
   unfolding badVertex
-  vertices-told = first-tells-fault (length (f .vertices)) (λ v. pointRight (getD (f .vertices) v origin)) (VertexRight f) (λ v l. point-decided (getD (f .vertices) v origin))
+  vertices-told =
+      first-tells-fault (length (f .vertices)) (λ v. pointRight (getD (f .vertices) v origin)) (VertexRight f)
+      (λ v l. point-decided (getD (f .vertices) v origin))
 
   pub corners-told : TellsLowest (length (f .polygons)) (CornersRight f) (badCorners (length (f .vertices)) (f .polygons))
   unfolding badCorners
-  corners-told = first-tells-fault (length (f .polygons)) (λ p. cornersRight (length (f .vertices)) (polygon f p)) (CornersRight f) (λ p l. corners-decided (length (f .vertices)) (polygon f p))
+  corners-told =
+      first-tells-fault (length (f .polygons)) (λ p. cornersRight (length (f .vertices)) (polygon f p)) (CornersRight f)
+      (λ p l. corners-decided (length (f .vertices)) (polygon f p))
 
   pub links-told : TellsLowest (length (f .polygons)) (Links f) (badLinks (f .polygons))
   unfolding badLinks
@@ -116,7 +122,8 @@ module _ (s : ℕ) (vs ps : List ℕ) where
       let vertices = vertices-told f .none .0 (ltb-false _ _ c) in
       when P (ltb p (length (f .polygons))) (Faulty (CornersFault p)) (λ e. (lists, vertices, corners-told f .lowest (ltb-true _ _ e))) (λ d.
       let corners = corners-told f .none .0 (ltb-false _ _ d) in
-      when (FloorCase s vs ps) (ltb q (length (f .polygons))) (Faulty (LinksFault q)) (λ e. (lists, vertices, corners, links-told f .lowest (ltb-true _ _ e))) (λ g.
+      when (FloorCase s vs ps) (ltb q (length (f .polygons))) (Faulty (LinksFault q))
+      (λ e. (lists, vertices, corners, links-told f .lowest (ltb-true _ _ e))) (λ g.
       let accepted : FloorCase s vs ps Sound = (lists, record { vertices = vertices; corners = corners; links = links-told f .none .0 (ltb-false _ _ g) }) in
       accepted)))))
 
@@ -175,8 +182,10 @@ module _ (s : ℕ) (vs ps : List ℕ) where
     asked-given h =
         when (Case s vs ps question) (not (questionRight question)) (Refused Question) (λ e. (h, holds-not (asked-decided question) (not-true _ e))) (λ a.
         let asked = asked-decided question .0 (not-false _ a) in
-        when (Case s vs ps question) (leb (length (f .polygons)) (polygonOf f start)) (Refused StartOutside) (λ e. (h, asked, λ i. past (in-some f start .1 i) (leb-true _ _ e))) (λ b.
-        when (Case s vs ps question) (leb (length (f .polygons)) (polygonOf f goal)) (Refused GoalOutside) (λ e. (h, asked, in-some f start .0 (leb-false _ _ b), λ i. past (in-some f goal .1 i) (leb-true _ _ e))) (λ c.
+        when (Case s vs ps question) (leb (length (f .polygons)) (polygonOf f start)) (Refused StartOutside)
+        (λ e. (h, asked, λ i. past (in-some f start .1 i) (leb-true _ _ e))) (λ b.
+        when (Case s vs ps question) (leb (length (f .polygons)) (polygonOf f goal)) (Refused GoalOutside)
+        (λ e. (h, asked, in-some f start .0 (leb-false _ _ b), λ i. past (in-some f goal .1 i) (leb-true _ _ e))) (λ c.
         (h, asked, polygon-is-least f start (leb-false _ _ b), polygon-is-least f goal (leb-false _ _ c)))))
 
     given : Case s vs ps question (lookOf s vs ps question)
@@ -203,9 +212,17 @@ module _ (s : ℕ) (vs ps : List ℕ) where
     found (Refused (LinksFault p)) h = rw (floor-found (Faulty (LinksFault p)) h)
     found (Refused Question) h = rw (floor-found Sound (h .0), not-holds _ (asked-decided question) (h .1))
     found (Refused StartOutside) h = rw (floor-found Sound (h .0), asked-decided question .1 (h .1), le-leb _ _ (outside f start (h .2)))
-    found (Refused GoalOutside) h = rw (floor-found Sound (h .0), asked-decided question .1 (h .1), lt-leb _ _ (in-some f start .1 (h .2)), le-leb _ _ (outside f goal (h .3)))
+    found (Refused GoalOutside) h =
+        rw (floor-found Sound (h .0), asked-decided question .1 (h .1), lt-leb _ _ (in-some f start .1 (h .2)), le-leb _ _ (outside f goal (h .3)))
     found (Inside a b) h =
-        rw (floor-found Sound (h .0), asked-decided question .1 (h .1), least-is-polygon f start a (h .2), lt-leb _ _ (h .2 .listed), least-is-polygon f goal b (h .3), lt-leb _ _ (h .3 .listed))
+        rw (
+          floor-found Sound (h .0),
+          asked-decided question .1 (h .1),
+          least-is-polygon f start a (h .2),
+          lt-leb _ _ (h .2 .listed),
+          least-is-polygon f goal b (h .3),
+          lt-leb _ _ (h .3 .listed),
+        )
 
     pub each-exactly : (a : Look) → lookOf s vs ps question ≡ a ↔ Case s vs ps question a
     each-exactly a = ((λ e. subst (Case s vs ps question) e given), found a)

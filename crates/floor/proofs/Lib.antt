@@ -3,3 +3,4 @@ pub mod Exact
 pub mod Looked
 pub mod Planned
 pub mod Asking
+mod Ways

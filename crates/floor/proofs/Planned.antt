@@ -1,5 +1,5 @@
--- The plan along a look: laid where the lists' lengths are right, then the corners of every polygon are, then the turn vertices are marked, and it is the plan of
--- the ground that an accepted floor is. Assumes nothing.
+-- The plan along a look: laid where the lists' lengths are right, then the corners of every polygon are, then the turn vertices are marked, and it is
+-- the plan of the ground that an accepted floor is. Assumes nothing.
 use Prim.Native.Nat.{ℕ, _*_, _/_, _≤_, _<_}
 use mathlib.Core.Path.{_≡_, sym, ap, _∙_, subst}
 use mathlib.Core.Bool.{not}
@@ -69,15 +69,19 @@ module _ (s : ℕ) (vs ps : List ℕ) where
   unfolding laidAfter
   lists-right l before = rw (whole-decided 8 1024 vs .1 (l .vertices-whole), whole-decided (s * 8) 512 ps .1 (l .polygons-whole))
 
-  module _ (some : 0 < s) (few : s ≤ 16) (e : cornersLookOf s vs ps ≡ Sound) (before : List ℕ) {plan : List ℕ} (after : plan ≡ laidAfter s vs ps before) where
+  module _ (some : 0 < s) (few : s ≤ 16) {look : FloorLook} (told : look ≡ cornersLookOf s vs ps) (e : look ≡ Sound) (before : List ℕ)
+      {plan : List ℕ} (after : plan ≡ laidAfter s vs ps before) where
     known : CornersCase Sound
-    known = subst CornersCase e corners-given
+    known = subst CornersCase (sym told ∙ e) corners-given
 
     laid-now : plan ≡ bare
     laid-now = after ∙ lists-right (known .0) before
 
-    pub vertices-now : VerticesPlanned plan vs
+    vertices-now : VerticesPlanned plan vs
     vertices-now = vertices-laid some few (known .0) laid-now
+
+    pub vertices-few-now : vertexCountIn plan ≤ 1024
+    vertices-few-now = rw (vertices-now .counted) (vertices-now .few)
 
     pub polygons-now : PolygonsPlanned plan ps
     polygons-now = polygons-laid some few (known .0) laid-now
@@ -93,26 +97,33 @@ module _ (s : ℕ) (vs ps : List ℕ) where
 
     -- ---- after 6
 
-    pub links-told : linksLookOf (polygonsIn plan ps) ≡ floorLookOf s vs ps
+    links-are : linksLookOf (polygonsIn plan ps) ≡ floorLookOf s vs ps
     unfolding floorLookOf
-    links-told = rw (e) (ap (λ (k : ℕ). linksLookOf (polygonsOf k ps)) (slots-laid laid-now))
+    links-are = rw (sym told ∙ e) (ap (λ (k : ℕ). linksLookOf (polygonsOf k ps)) (slots-laid laid-now))
 
-    pub plan-told : planIf (linksLookOf (polygonsIn plan ps)) (turnsMarked (polygonsIn plan ps) plan) plan ≡ planAfter s vs ps before
+    pub links-told : {found : FloorLook} → found ≡ linksLookOf (polygonsIn plan ps) → found ≡ floorLookOf s vs ps
+    links-told l = l ∙ links-are
+
+    plan-is : planIf (linksLookOf (polygonsIn plan ps)) (turnsMarked (polygonsIn plan ps) plan) plan ≡ planAfter s vs ps before
     unfolding planAfter planOf
-    plan-told =
+    plan-is =
         rw (slots-laid laid-now) (
-        rw (← links-told, slots-laid laid-now, ← after)
+        rw (← links-are, slots-laid laid-now, ← after)
         (ap (λ (l : List ℕ). planIf (linksLookOf (polygonsOf s ps)) (turnsMarked (polygonsOf s ps) l) plan) laid-now))
 
+    pub plan-told : {now : List ℕ} → now ≡ planIf (linksLookOf (polygonsIn plan ps)) (turnsMarked (polygonsIn plan ps) plan) plan
+        → now ≡ planAfter s vs ps before
+    plan-told l = l ∙ plan-is
+
   -- a fault that was found before 6 stays
-  module _ {r : Refusal} (e : cornersLookOf s vs ps ≡ Faulty r) where
+  module _ {look : FloorLook} (told : look ≡ cornersLookOf s vs ps) {r : Refusal} (e : look ≡ Faulty r) where
     pub fault-told : Faulty r ≡ floorLookOf s vs ps
     unfolding floorLookOf
-    fault-told = rw (e)
+    fault-told = rw (sym told ∙ e)
 
-    pub fault-plan : (before : List ℕ) → laidAfter s vs ps before ≡ planAfter s vs ps before
+    pub fault-plan : (before : List ℕ) {plan : List ℕ} → plan ≡ laidAfter s vs ps before → plan ≡ planAfter s vs ps before
     unfolding planAfter
-    fault-plan before = rw (← fault-told)
+    fault-plan before p = p ∙ rw (← fault-told)
 
   -- ---- after the look
 

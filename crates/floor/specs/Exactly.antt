@@ -10,7 +10,8 @@ use Rattle.point.specs.declared.Point.{Point}
 use Rattle.point.specs.declared.EdgeSide.the-variants.{Right}
 use Rattle.point.specs.Sides.{sideOf}
 use Rattle.floor.specs.declared.Refusal.{Refusal}
-use Rattle.floor.specs.declared.Refusal.the-variants.{VertexLength, PolygonLength, Vertex, Corners as CornersFault, Links as LinksFault, Question, StartOutside, GoalOutside}
+use Rattle.floor.specs.declared.Refusal.the-variants.{VertexLength, PolygonLength, Vertex, Corners as CornersFault, Links as LinksFault}
+use Rattle.floor.specs.declared.Refusal.the-variants.{Question, StartOutside, GoalOutside}
 use Rattle.floor.specs.declared.FloorLook.{FloorLook}
 use Rattle.floor.specs.declared.FloorLook.the-variants.{Accepted as Sound, Faulty}
 use Rattle.floor.specs.declared.Look.{Look}
@@ -74,7 +75,8 @@ module _ (slots : ℕ) (vertices polygons : List ℕ) where
   FloorCase (Faulty PolygonLength) = Whole vertexBytes mostVertices vertices × ¬ Whole (polygonBytes slots) mostPolygons polygons
   FloorCase (Faulty (Vertex v)) = Lists slots vertices polygons × Lowest vertexCount (VertexRight floor) v
   FloorCase (Faulty (CornersFault p)) = Lists slots vertices polygons × All vertexCount (VertexRight floor) × Lowest polygonCount (CornersRight floor) p
-  FloorCase (Faulty (LinksFault p)) = Lists slots vertices polygons × All vertexCount (VertexRight floor) × All polygonCount (CornersRight floor) × Lowest polygonCount (Links floor) p
+  FloorCase (Faulty (LinksFault p)) =
+      Lists slots vertices polygons × All vertexCount (VertexRight floor) × All polygonCount (CornersRight floor) × Lowest polygonCount (Links floor) p
   FloorCase Sound = Lists slots vertices polygons × Accepted floor
   -- 7 to 9 are no answers to a floor alone
   FloorCase (Faulty Question) = ⊥

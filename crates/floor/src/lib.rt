@@ -10,7 +10,8 @@ ghost use Rattle.faults.specs.Tests.{pointRight, questionRight};
 ghost use Rattle.faults.specs.Accepted.{Corners};
 ghost use Rattle.edges.specs.Where.{turnsMarked};
 ghost use Rattle.edges.specs.Ground.{Ground};
-ghost use Rattle.floor.specs.Look.{badVertex, badCorners, badLinks, recordsLookOf, cornersLookOf, linksLookOf, floorLookOf, laidAfter, planIf, planAfter, askOf, lookOf, refusalTold};
+ghost use Rattle.floor.specs.Look.{badVertex, badCorners, badLinks, recordsLookOf, cornersLookOf, linksLookOf, floorLookOf};
+ghost use Rattle.floor.specs.Look.{laidAfter, planIf, planAfter, askOf, lookOf, refusalTold};
 use plan::PLAN;
 use told::Told;
 
@@ -151,7 +152,10 @@ fn look_at_links(polygons: &[u8], plan: &mut [u32; PLAN]) -> FloorLook
     requires { ⌜ PolygonsPlanned (now plan) (now polygons) × (vertexCountIn (now plan) ≤ mostVertices) ⌝ }
     requires { ⌜ ((p : ℕ) → p < polygonCountIn (now plan) → Corners (vertexCountIn (now plan)) (recordIn (now plan) (now polygons) p)) ⌝ }
     ensures { λ r. ⌜ r ≡ linksLookOf (polygonsIn (now (plan .entry)) (now (polygons .entry))) ⌝ }
-    ensures { λ _. let listed = polygonsIn (now (plan .entry)) (now (polygons .entry)) in ⌜ now (plan .exit) ≡ planIf (linksLookOf listed) (turnsMarked listed (now (plan .entry))) (now (plan .entry)) ⌝ }
+    ensures { λ _.
+        let before = now (plan .entry) in
+        let listed = polygonsIn before (now (polygons .entry)) in
+        ⌜ now (plan .exit) ≡ planIf (linksLookOf listed) (turnsMarked listed before) before ⌝ }
 {
     let p = bad_links(polygons, plan);
     if p < plan::polygon_count(plan) {

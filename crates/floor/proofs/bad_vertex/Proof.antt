@@ -1,11 +1,12 @@
+-- `floor::bad_vertex` meets its contract: the loop's invariant is that those before are right. Assumes nothing.
 use Prim.Native.Nat.{ℕ, _≤_, _<_, _-_}
 use Rattle.counts.proofs.Laws.{first-is}
 use borrow.Author.Count.{below-none, below-more}
 use borrow.Author.Needs.{needs}
-use borrow.Author.Tests.{not-false, not-true}
-use mathlib.Core.Path.{_≡_, sym, _∙_}
+use mathlib.Core.Path.{_≡_, sym, ap, _∙_}
 use mathlib.Core.Bool.{true, false, not}
 use native.Mathlib.Omega.{arith}
+use denote.Ref.{now}
 use lib.ListN.{length, getD}
 use Rattle.stored.specs.Stored.{verticesOf, origin}
 use Rattle.stored.proofs.Records.{vertex-count}
@@ -20,40 +21,49 @@ Inv-loop vertices plan n v₀ v = (v ≤ n) × ((k : ℕ) → k < v → not (poi
 abbrev μ-loop : tie.MeasureT-loop
 μ-loop vertices plan n v₀ v = n - v
 
-loop-holds : tie.Need-loop-holds Inv-loop μ-loop
-loop-holds c = (omega arith, below-none _)
+-- ---- places
 
-vertex-right-requires : tie.Need-vertex-right-requires Inv-loop μ-loop
-vertex-right-requires c κs =
-    let at-count = c .before .before in
-    let start = at-count .before .before in
-    rw (at-count .vertex-count .ensures ∙ start .pre) at (c .loop-test .taken)
+abbrev start : tie.After-vertex-count Inv-loop μ-loop → tie.Start Inv-loop μ-loop
+start c = c .before .before
+
+abbrev looping : tie.After-vertex-right Inv-loop μ-loop → tie.At-loop Inv-loop μ-loop
+looping c = c .before .before
+
+-- as many as the plan says
+counted : (c : tie.After-vertex-count Inv-loop μ-loop) → length (verticesOf (now (start c .args .vertices))) ≡ c .vertex-count .result
+counted c = vertex-count _ ∙ sym (c .vertex-count .ensures ∙ start c .pre)
+
+-- ---- the needs
 
 returns : tie.Need-returns Inv-loop μ-loop
 unfolding badVertex
 returns c =
-    let at-loop = c .before .before .before in
-    let at-count = at-loop .before in
-    let start = at-count .before .before in
-    rw (vertex-count _, ← start .pre, ← at-count .vertex-count .ensures)
-    (sym (first-is _ _ _ (omega arith) (at-loop .loop .inv .1)
-    (λ l. rw (← c .before .vertex-right .ensures, not-true (c .before .vertex-right .result) (c .if1 .taken)))))
+    let asked = c .before in
+    let l = looping asked in
+    rw (counted (l .before)) (sym (first-is _ _ _ (omega arith) (l .loop .inv .1) (λ _. ap not (sym (asked .vertex-right .ensures)) ∙ c .if1 .taken)))
 
 loop-again : tie.Need-loop-again Inv-loop μ-loop
-loop-again c = (
-  omega arith,
-  below-more _ _ (c .before .before .before .loop .inv .1) (rw (← c .before .vertex-right .ensures, not-false (c .before .vertex-right .result) (c .if1 .left))),
-)
+loop-again c =
+    let asked = c .before in
+    (omega arith, below-more _ _ (looping asked .loop .inv .1) (ap not (sym (asked .vertex-right .ensures)) ∙ c .if1 .left))
 
 returns-2 : tie.Need-returns-2 Inv-loop μ-loop
 unfolding badVertex
 returns-2 c =
-    let at-count = c .before .before in
-    let start = at-count .before .before in
-    rw (vertex-count _, ← start .pre, ← at-count .vertex-count .ensures)
-    (sym (first-is _ _ _ (omega arith) (λ k l. c .before .loop .inv .1 k (omega arith)) (λ l. absurd (omega arith))))
+    let l = c .before in
+    rw (counted (l .before)) (sym (first-is _ _ _ (omega arith) (l .loop .inv .1) (λ h. absurd (omega arith))))
 
 pub bad-vertex-spec : {M : Type 1} → statement M
 bad-vertex-spec =
     tie.close
-    (tie.spec Inv-loop μ-loop (λ c κs. search needs) loop-holds vertex-right-requires returns (λ c. omega arith) (λ c. omega arith) loop-again returns-2)
+    (tie.spec
+    Inv-loop
+    μ-loop
+    (λ c κs. search needs)
+    (λ c. (omega arith, below-none _))
+    (λ c κs. omega arith)
+    returns
+    (λ c. omega arith)
+    (λ c. omega arith)
+    loop-again
+    returns-2)
