@@ -14,7 +14,8 @@ use Rattle.counts.proofs.Decides.{every-decides}
 use Rattle.float.proofs.Tests.{and-true, or-true, untrue}
 use Rattle.point.specs.declared.Point.{Point}
 use Rattle.stored.specs.Stored.{Floor, Polygon, unused, corner, neighbour, cornerCount, cornerAfter, polygon, isListed}
-use Rattle.faults.specs.Tests.{lengthRight, coordinateRight, pointRight, restUnused, unlikeEarlier, distinct, cornersListed, cornersRight, isBack, namesBack, linkRight, linksRight}
+use Rattle.faults.specs.Tests.{lengthRight, coordinateRight, pointRight, restUnused, unlikeEarlier, distinct, cornersListed, cornersRight}
+use Rattle.faults.specs.Tests.{isBack, namesBack, linkRight, linksRight}
 use Rattle.faults.specs.Accepted.{InRange, Corners, Back, Links}
 
 -- ---- tests that are joined
@@ -36,10 +37,12 @@ equal m n = (eqb-true m n, eq-eqb m n)
 
 -- ---- 2 and 3
 
-pub length-decided : (size most : ℕ) (bytes : List ℕ) → lengthRight size most bytes ≡ true ↔ ((length bytes % size ≡ 0) × ((1 ≤ length bytes / size) × (length bytes / size ≤ most)))
+pub length-decided : (size most : ℕ) (bytes : List ℕ)
+    → lengthRight size most bytes ≡ true ↔ ((length bytes % size ≡ 0) × ((1 ≤ length bytes / size) × (length bytes / size ≤ most)))
 unfolding lengthRight
 length-decided size most bytes =
-    both (equal (length bytes % size) 0) (both (leb-true 1 (length bytes / size), le-leb 1 (length bytes / size)) (leb-true (length bytes / size) most, le-leb (length bytes / size) most))
+    let count = length bytes / size in
+    both (equal (length bytes % size) 0) (both (leb-true 1 count, le-leb 1 count) (leb-true count most, le-leb count most))
 
 -- ---- 4
 
@@ -54,7 +57,9 @@ point-decided p =
 pub rest-decided : (slot : ℕ → ℕ) (slots n : ℕ) → restUnused slot slots n ≡ true ↔ ((i : ℕ) → n ≤ i → i < slots → slot i ≡ unused)
 unfolding restUnused
 rest-decided slot slots n =
-    through (every-decides (slots - n) (λ k. eqb (slot (n + k)) unused) (λ k. slot (n + k) ≡ unused) (λ k l. (eqb-true (slot (n + k)) unused, eq-eqb (slot (n + k)) unused)))
+    through
+    (every-decides (slots - n) (λ k. eqb (slot (n + k)) unused) (λ k. slot (n + k) ≡ unused)
+    (λ k l. (eqb-true (slot (n + k)) unused, eq-eqb (slot (n + k)) unused)))
     (λ h i l u. subst (λ (v : ℕ). slot v ≡ unused) (again n i l) (h (i - n) (omega arith))) (λ h k l. h (n + k) (omega arith) (omega arith))
   where
     again : (n i : ℕ) → n ≤ i → n + (i - n) ≡ i
@@ -66,7 +71,9 @@ differs a b = ((λ h. eqb-false a b (not-true (eqb a b) h)), (λ h. ap not (ne-e
 pub distinct-decided : (p : Polygon) → distinct p ≡ true ↔ ((i j : ℕ) → i < j → j < cornerCount p → corner p i ≡ corner p j → ⊥)
 unfolding distinct unlikeEarlier
 distinct-decided p =
-    through (every-decides (cornerCount p) (unlikeEarlier p) (λ j. (i : ℕ) → i < j → corner p i ≡ corner p j → ⊥) (λ j l. every-decides j (λ i. not (eqb (corner p i) (corner p j))) (λ i. corner p i ≡ corner p j → ⊥) (λ i m. differs (corner p i) (corner p j))))
+    through
+    (every-decides (cornerCount p) (unlikeEarlier p) (λ j. (i : ℕ) → i < j → corner p i ≡ corner p j → ⊥)
+    (λ j l. every-decides j (λ i. not (eqb (corner p i) (corner p j))) (λ i. corner p i ≡ corner p j → ⊥) (λ i m. differs (corner p i) (corner p j))))
     (λ h i j l u. h j u i l) (λ h j u i l. h i j l u)
 
 pub listed-decided : (n : ℕ) (p : Polygon) → cornersListed n p ≡ true ↔ ((i : ℕ) → i < cornerCount p → corner p i < n)
@@ -93,7 +100,8 @@ module _ (f : Floor) (p i : ℕ) where
   q = neighbour (polygon f p) i
 
   -- "Q is another listed polygon with an edge (b,a) that names P"
-  back-is : (not (eqb q p) && (isListed (f .polygons) q && namesBack (polygon f q) p (corner (polygon f p) i) (cornerAfter (polygon f p) i))) ≡ true ↔ Back f p i q
+  back-is : (not (eqb q p) && (isListed (f .polygons) q && namesBack (polygon f q) p (corner (polygon f p) i) (cornerAfter (polygon f p) i))) ≡ true
+      ↔ Back f p i q
   unfolding isListed namesBack
   back-is =
       through
@@ -126,7 +134,9 @@ pub links-decided : (f : Floor) (p : ℕ) → linksRight (f .polygons) p ≡ tru
 unfolding linksRight
 links-decided f p =
     through
-    (both (every-decides (cornerCount (polygon f p)) (linkRight (f .polygons) p) (λ i. (neighbour (polygon f p) i ≡ unused) ⊎ Back f p i (neighbour (polygon f p) i)) (λ i l. link-decided f p i))
+    (both
+    (every-decides (cornerCount (polygon f p)) (linkRight (f .polygons) p)
+    (λ i. (neighbour (polygon f p) i ≡ unused) ⊎ Back f p i (neighbour (polygon f p) i)) (λ i l. link-decided f p i))
     (rest-decided (neighbour (polygon f p)) (length (polygon f p .neighbours)) (cornerCount (polygon f p))))
     (λ h. record { linked = h .0; rest = h .1 })
     (λ r. (r .linked, r .rest))

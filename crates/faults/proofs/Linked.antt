@@ -1,7 +1,7 @@
 -- The link across one edge of a listed polygon, case by case, in words of its stored record. Assumes nothing.
 use Prim.Native.Nat.{ℕ, _≤_, _<_}
-use mathlib.Core.Path.{_≡_, refl, sym, _∙_}
-use mathlib.Core.Bool.{true, false}
+use mathlib.Core.Path.{_≡_, _∙_}
+use mathlib.Core.Bool.{Bool, true, false}
 use mathlib.Core.List.{List}
 use borrow.Author.Tests.{eq-eqb, ne-eqb, lt-ltb, le-ltb}
 use Rattle.plan.specs.Plan.{polygonCountIn}
@@ -9,31 +9,36 @@ use Rattle.stored.specs.Stored.{unused, polygonsIn, recordIn, corner, neighbour
 use Rattle.faults.specs.Tests.{namesBack, linkRight}
 use Rattle.stored.proofs.Records.{polygon-read, polygons-counted}
 
-module _ {plan ps : List ℕ} (planned : PolygonsPlanned plan ps) (p i : ℕ) (listed : p < polygonCountIn plan) where
-  pub wall-right : neighbour (recordIn plan ps p) i ≡ unused → linkRight (polygonsIn plan ps) p i ≡ true
+module _ {plan ps : List ℕ} (planned : PolygonsPlanned plan ps) (p i : ℕ) (listed : p < polygonCountIn plan)
+    {q : ℕ} (across : q ≡ neighbour (recordIn plan ps p) i) where
+  pub wall-right : q ≡ unused → true ≡ linkRight (polygonsIn plan ps) p i
   unfolding linkRight
-  wall-right e = rw (polygon-read planned p listed, eq-eqb _ _ e)
+  wall-right e = rw (polygon-read planned p listed, ← across, eq-eqb _ _ e)
 
-  module _ (used : neighbour (recordIn plan ps p) i ≡ unused → ⊥) where
-    pub self-wrong : neighbour (recordIn plan ps p) i ≡ p → linkRight (polygonsIn plan ps) p i ≡ false
+  module _ (used : q ≡ unused → ⊥) where
+    pub self-wrong : q ≡ p → false ≡ linkRight (polygonsIn plan ps) p i
     unfolding linkRight
-    self-wrong e = rw (polygon-read planned p listed, ne-eqb _ _ used, eq-eqb _ _ e)
+    self-wrong e = rw (polygon-read planned p listed, ← across, ne-eqb _ _ used, eq-eqb _ _ e)
 
-    module _ (other : neighbour (recordIn plan ps p) i ≡ p → ⊥) where
-      pub unlisted-wrong : polygonCountIn plan ≤ neighbour (recordIn plan ps p) i → linkRight (polygonsIn plan ps) p i ≡ false
+    module _ (other : q ≡ p → ⊥) {n : ℕ} (counted : n ≡ polygonCountIn plan) where
+      pub unlisted-wrong : n ≤ q → false ≡ linkRight (polygonsIn plan ps) p i
       unfolding linkRight isListed
-      unlisted-wrong h = rw (polygon-read planned p listed, ne-eqb _ _ used, ne-eqb _ _ other, polygons-counted planned, le-ltb _ _ h)
+      unlisted-wrong h =
+          rw (polygon-read planned p listed, ← across, ne-eqb _ _ used, ne-eqb _ _ other, polygons-counted planned, ← counted, le-ltb _ _ h)
 
-      pub other-names-back : neighbour (recordIn plan ps p) i < polygonCountIn plan
-          → linkRight (polygonsIn plan ps) p i
-          ≡ namesBack (recordIn plan ps (neighbour (recordIn plan ps p) i)) p (corner (recordIn plan ps p) i) (cornerAfter (recordIn plan ps p) i)
+      pub other-names-back : q < n → {a : ℕ} → a ≡ corner (recordIn plan ps p) i → {b : ℕ} → b ≡ cornerAfter (recordIn plan ps p) i
+          → {r : Bool} → r ≡ namesBack (recordIn plan ps q) p a b → r ≡ linkRight (polygonsIn plan ps) p i
       unfolding linkRight isListed
-      other-names-back h =
-          rw (
+      other-names-back h begins ends r =
+          r ∙ rw (
             polygon-read planned p listed,
+            ← across,
             ne-eqb _ _ used,
             ne-eqb _ _ other,
             polygons-counted planned,
+            ← counted,
             lt-ltb _ _ h,
-            polygon-read planned (neighbour (recordIn plan ps p) i) h,
+            polygon-read planned q (rw (← counted) h),
+            begins,
+            ends,
           )

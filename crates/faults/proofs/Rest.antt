@@ -29,6 +29,7 @@ module _ (s : ℕ) (bytes : List ℕ) (p : ℕ) where
       every-same (s - n) (λ k. eqb (neighbour (polygonAt s bytes p) (n + k)) unused) (λ k. eqb (slotAt s bytes p (s + (n + k))) unused)
       (λ k l. rw (neighbour-read s bytes p (n + k) (omega arith)))
 
-  pub rest-neighbours-by : {read : ℕ} → read ≡ s → (n : ℕ) → restUnused (neighbour (polygonAt s bytes p)) s n ≡ restUnused (λ i. slotAt s bytes p (read + i)) s n
+  pub rest-neighbours-by : {read : ℕ} → read ≡ s → (n : ℕ)
+      → restUnused (neighbour (polygonAt s bytes p)) s n ≡ restUnused (λ i. slotAt s bytes p (read + i)) s n
   rest-neighbours-by e n =
       subst (λ (k : ℕ). restUnused (neighbour (polygonAt s bytes p)) s n ≡ restUnused (λ i. slotAt s bytes p (k + i)) s n) (sym e) (rest-neighbours n)

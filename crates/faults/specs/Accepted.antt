@@ -9,7 +9,8 @@ use lib.Ieee.{le, neg}
 use Rattle.point.specs.declared.Point.{Point}
 use Rattle.point.specs.Point.{limit}
 use Rattle.plan.specs.Plan.{vertexCountIn, polygonCountIn}
-use Rattle.stored.specs.Stored.{Floor, Polygon, unused, origin, corner, neighbour, cornerCount, cornerAfter, polygon, recordIn, VerticesPlanned, PolygonsPlanned}
+use Rattle.stored.specs.Stored.{Floor, Polygon, unused, origin, corner, neighbour, cornerCount, cornerAfter, polygon, recordIn}
+use Rattle.stored.specs.Stored.{VerticesPlanned, PolygonsPlanned}
 
 -- "Coordinates are finite, of magnitude at most 16,384."
 pub record InRange (p : Point) : Type 0 where

@@ -1,58 +1,32 @@
-use Prim.Native.Nat.{ℕ, _≤_, _<_, _-_}
-use Rattle.counts.proofs.Laws.{every-false, every-true}
-use borrow.Author.Count.{below-none, below-more}
-use borrow.Author.Needs.{needs}
-use borrow.Author.Tests.{eq-eqb}
-use borrow.Author.Tests.{ne-eqb}
-use mathlib.Core.Path.{_≡_, sym}
+-- `faults::unlike_earlier` meets its contract: those before are so. Assumes nothing.
+use Prim.Native.Nat.{_-_}
 use native.Mathlib.Omega.{arith}
-use Rattle.faults.specs.Tests.{unlikeEarlier}
-use Prim.Native.Nat.{_+_}
-use mathlib.Core.Bool.{true, false, not}
-use lib.Dec.{eqb, ltb}
-use Rattle.stored.specs.Stored.{corner, recordIn, unused}
+use borrow.Author.Needs.{needs}
+use mathlib.Core.Bool.{not}
+use lib.Dec.{eqb}
+use Rattle.stored.specs.Stored.{corner, recordIn}
+use Rattle.faults.proofs.Ways.{Passed, passed-none, passed-all, passed-more, passed-fails, earlier-told, corners-alike-here, corners-unlike-here}
 use Rattle.faults.proofs.unlike_earlier.Statement.{statement}
 use Rattle.faults.proofs.unlike_earlier.Tie as tie
 
 abbrev Inv-loop : tie.InvT-loop
-Inv-loop polygons plan p j last i₀ i = (i ≤ j) × ((k : ℕ) → k < i → not (eqb (corner (recordIn plan polygons p) k) (corner (recordIn plan polygons p) j)) ≡ true)
+Inv-loop polygons plan p j last i₀ i =
+    let q = recordIn plan polygons p in Passed (λ k. not (eqb (corner q k) (corner q j))) i j
 
 abbrev μ-loop : tie.MeasureT-loop
 μ-loop polygons plan p j last i₀ i = j - i
 
-corner-requires : tie.Need-corner-requires Inv-loop μ-loop
-corner-requires c κs = search needs
-
-loop-holds : tie.Need-loop-holds Inv-loop μ-loop
-loop-holds c = (omega arith, below-none _)
-
-corner-requires-2 : tie.Need-corner-requires-2 Inv-loop μ-loop
-corner-requires-2 c κs = search needs
-
-returns : tie.Need-returns Inv-loop μ-loop
-unfolding unlikeEarlier
-returns c =
-    let at-loop = c .before .before .before in
-    let at-corner = at-loop .before in
-    sym (every-false _ _ (at-loop .loop .i) (omega arith) (rw (← at-corner .corner .ensures, ← c .before .corner2 .ensures, eq-eqb _ _ (c .if1 .taken))))
-
-add-i : tie.Need-add-i Inv-loop μ-loop
-add-i c = omega arith
-
-loop-less : tie.Need-loop-less Inv-loop μ-loop
-loop-less c = omega arith
-
-loop-again : tie.Need-loop-again Inv-loop μ-loop
-loop-again c =
-    let at-loop = c .before .before .before in
-    let at-corner = at-loop .before in
-    (omega arith, below-more _ _ (at-loop .loop .inv .1) (rw (← at-corner .corner .ensures, ← c .before .corner2 .ensures, ne-eqb _ _ (c .if1 .left))))
-
-returns-2 : tie.Need-returns-2 Inv-loop μ-loop
-unfolding unlikeEarlier
-returns-2 c = sym (every-true _ _ (λ k l. c .before .loop .inv .1 k (omega arith)))
-
 pub unlike-earlier-spec : {M : Type 1} → statement M
 unlike-earlier-spec =
     tie.close
-    (tie.spec Inv-loop μ-loop corner-requires loop-holds corner-requires-2 returns add-i loop-less loop-again returns-2)
+    (tie.spec
+    Inv-loop
+    μ-loop
+    (λ c κs. search needs)
+    (λ c. search (needs, passed-none))
+    (λ c κs. search needs)
+    (λ c. search (needs, passed-fails, corners-alike-here, earlier-told))
+    (λ c. omega arith)
+    (λ c. omega arith)
+    (λ c. search (needs, passed-more, corners-unlike-here, c .if1 .left))
+    (λ c. search (needs, passed-all, earlier-told)))
