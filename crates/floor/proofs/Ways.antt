@@ -1,15 +1,20 @@
 -- Each way through the look's functions is the definition's, by what the code has found out on it. Assumes nothing.
-use Prim.Native.Nat.{ℕ, _*_, _/_, _≤_, _<_}
+use Prim.Native.Nat.{ℕ, _+_, _*_, _/_, _≤_, _<_}
+use native.Mathlib.Omega.{arith}
 use mathlib.Core.Path.{_≡_, sym, ap, _∙_}
 use mathlib.Core.Bool.{Bool, true, false, not}
 use mathlib.Core.List.{List}
+use borrow.Author.Count.{below-none, below-more}
 use borrow.Author.Tests.{le-leb, lt-leb, lt-ltb, le-ltb, eq-eqb, ne-eqb, not-true, not-false}
 use lib.ListN.{length, getD}
 use Rattle.point.specs.declared.Point.{Point}
+use Rattle.counts.specs.Counts.{first}
+use Rattle.counts.proofs.Laws.{first-is}
 use Rattle.plan.specs.Plan.{vertexCountIn, polygonCountIn, laid}
-use Rattle.stored.specs.Stored.{Floor, Polygon, origin, vertexAt, verticesOf, polygonsIn, floorIn, floorOf, questionOf, VerticesPlanned, PolygonsPlanned}
+use Rattle.stored.specs.Stored.{Floor, Polygon, origin, vertexAt, verticesOf, polygonIn, polygonsIn, floorIn}
+use Rattle.stored.specs.Stored.{floorOf, questionOf, VerticesPlanned, PolygonsPlanned}
 use Rattle.stored.proofs.Records.{polygons-counted, vertex-count, vertex-is}
-use Rattle.faults.specs.Tests.{lengthRight, pointRight, questionRight}
+use Rattle.faults.specs.Tests.{lengthRight, pointRight, cornersRight, linksRight, questionRight}
 use Rattle.edges.specs.Where.{polygonOf, turnsMarked}
 use Rattle.edges.specs.Ground.{Ground}
 use Rattle.floor.specs.declared.Refusal.{Refusal}
@@ -24,6 +29,31 @@ use Rattle.floor.specs.Exactly.{Lists}
 use Rattle.floor.proofs.Exact.{whole-decided}
 use Rattle.floor.proofs.Planned.{slots-laid, lists-right, slots-are, grounded}
 use Rattle.floor.proofs.Looked.{question-length}
+
+-- ---- a loop that ends at the first that is not right
+
+-- none before i is wrong
+pub record Right (wrong : ℕ → Bool) (i n : ℕ) : Type 0 where
+  pub low : i ≤ n
+  pub right : (k : ℕ) → k < i → wrong k ≡ false
+
+pub right-none : {wrong : ℕ → Bool} {n : ℕ} → Right wrong 0 n
+right-none = record { low = omega arith; right = below-none _ }
+
+module _ {wrong : ℕ → Bool} {i n : ℕ} (h : Right wrong i n) where
+  pub first-end : n ≤ i → i ≡ first n wrong
+  first-end l = sym (first-is n wrong i (h .low) (h .right) (λ m. absurd (omega arith)))
+
+  module _ (l : i < n) where
+    pub right-more : wrong i ≡ false → Right wrong (i + 1) n
+    right-more e = record { low = omega arith; right = below-more _ _ (h .right) e }
+
+    pub first-here : wrong i ≡ true → i ≡ first n wrong
+    first-here e = sym (first-is n wrong i (h .low) (h .right) (λ m. e))
+
+-- what the test says of what it asks
+pub asked-not : {b a c : Bool} → b ≡ a → not b ≡ c → not a ≡ c
+asked-not asked e = ap not (sym asked) ∙ e
 
 -- ---- 2 and 3
 
@@ -79,6 +109,22 @@ module _ (s : ℕ) (vs ps : List ℕ) (lists : Lists s vs ps) {plan : List ℕ} 
 pub vertex-told : (vs : List ℕ) (v : ℕ) → v < length vs / 8 → {p : Point} → p ≡ vertexAt vs v → {b : Bool} → b ≡ pointRight p
     → b ≡ pointRight (getD (verticesOf vs) v origin)
 vertex-told vs v l e g = rw (vertex-is vs v l, ← e) g
+
+pub bad-vertex-is : (vs : List ℕ) {count : ℕ} → count ≡ length vs / 8 → {n : ℕ} → n ≡ count
+    → {v : ℕ} → v ≡ first n (λ k. not (pointRight (getD (verticesOf vs) k origin))) → v ≡ badVertex (verticesOf vs)
+unfolding badVertex
+bad-vertex-is vs stored counted e = rw (vertex-count vs, ← stored, ← counted) e
+
+-- ---- 5, and 6
+
+module _ {plan ps : List ℕ} (planned : PolygonsPlanned plan ps) {n : ℕ} (counted : n ≡ polygonCountIn plan) {p : ℕ} where
+  pub bad-corners-is : (count : ℕ) → p ≡ first n (λ k. not (cornersRight count (polygonIn (polygonsIn plan ps) k))) → p ≡ badCorners count (polygonsIn plan ps)
+  unfolding badCorners
+  bad-corners-is count e = rw (polygons-counted planned, ← counted) e
+
+  pub bad-links-is : p ≡ first n (λ k. not (linksRight (polygonsIn plan ps) k)) → p ≡ badLinks (polygonsIn plan ps)
+  unfolding badLinks
+  bad-links-is e = rw (polygons-counted planned, ← counted) e
 
 -- ---- 4 and 5
 

@@ -21,7 +21,7 @@ use Rattle.machine.specs.declared.Outcome.the-variants.{Goes, Ends}
 use Rattle.places.specs.Layout.{workOf, nodeAt, parentIn, depthAt, numberIn, numberAt, recordFor, recordDistance, fAt, isQueued, leastIn}
 use Rattle.machine.specs.Search.{State, stateOf, Making, Stepping, stepping, counted, beatenIn, originAt, madeAll, visited, popped, step}
 use Rattle.edges.specs.Ground.{Ground}
-use Rattle.machine.specs.Sound.{OnRecord, Numbered, SoundFrom, Leaves}
+use Rattle.machine.specs.Sound.{OnRecord, SoundFrom, Leaves}
 use Rattle.machine.proofs.Kept.{popped-queued, popped-taken, sound-popped, numbered-popped}
 
 -- ---- a node that was popped
