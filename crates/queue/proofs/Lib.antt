@@ -7,3 +7,4 @@ pub mod Lent
 pub mod Queued
 pub mod Change
 pub mod Examples
+mod Ways

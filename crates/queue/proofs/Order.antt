@@ -58,7 +58,8 @@ module _ (f : ℕ → Float) (i j : ℕ) (ni : T (not (isNan (f i)))) (nj : T (n
   pub before-asymmetric : before f i j ≡ true → before f j i ≡ false
   before-asymmetric h =
       let r = ranks (f i) (f j) (f j) ni nj nj in
-      ⊎-elim (λ l. makes f j i (r .yx) (omega arith) (λ e. omega arith)) (λ e. makes f j i (r .yx) (omega arith) (λ _. omega arith)) (tells-true f i j (r .xy) h)
+      ⊎-elim (λ l. makes f j i (r .yx) (omega arith) (λ e. omega arith)) (λ e. makes f j i (r .yx) (omega arith) (λ _. omega arith))
+      (tells-true f i j (r .xy) h)
 
   pub neither-before : before f i j ≡ false → before f j i ≡ false → i ≡ j
   neither-before h k =
@@ -143,7 +144,8 @@ module _ (f : ℕ → Float) (n a b : ℕ) where
   better-same g p q = go (leb n a) refl (leb n b) refl
     where
       go : (s : Bool) → leb n a ≡ s → (t : Bool) → leb n b ≡ t
-          → cond s b (cond t a (cond (lt (f a) (f b) || (eq (f a) (f b) && ltb a b)) a b)) ≡ cond s b (cond t a (cond (lt (g a) (g b) || (eq (g a) (g b) && ltb a b)) a b))
+          → cond s b (cond t a (cond (lt (f a) (f b) || (eq (f a) (f b) && ltb a b)) a b))
+          ≡ cond s b (cond t a (cond (lt (g a) (g b) || (eq (g a) (g b) && ltb a b)) a b))
       go true e t h = refl
       go false e true h = refl
       go false e false h = rw (p (leb-false n a e), q (leb-false n b h))

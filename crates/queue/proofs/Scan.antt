@@ -10,7 +10,8 @@ use lib.Dec.{T}
 use lib.Ieee.{Float, isNan}
 use Rattle.float.proofs.Tests.{failed, untrue}
 use Rattle.queue.specs.Queue.{none, before, better, ownOf, leastBelow, leastOf, Least, NoNan, Empty}
-use Rattle.queue.proofs.Order.{neither-before, not-before-transitive, better-cases, better-place-left, better-place-right, better-left, better-right, better-same}
+use Rattle.queue.proofs.Order.{neither-before, not-before-transitive}
+use Rattle.queue.proofs.Order.{better-cases, better-place-left, better-place-right, better-left, better-right, better-same}
 
 -- ---- a word is no place, or a queued one
 
@@ -53,7 +54,8 @@ module _ (f : ℕ → Float) (n : ℕ) (q : ℕ → Bool) (m : n ≤ none) where
 
   -- so two words of which either may be said are equal
   pub told-unique : NoNan f n q → (v w : ℕ) → ((v ≡ none) × Empty n q) ⊎ Least f n q v → ((w ≡ none) × Empty n q) ⊎ Least f n q w → v ≡ w
-  told-unique o v w x y = ⊎-elim (λ a. ⊎-elim (λ b. a .0 ∙ sym (b .0)) (λ b. never w (a .1) b) y) (λ a. ⊎-elim (λ b. never v (b .1) a) (least-unique o v w a) y) x
+  told-unique o v w x y =
+      ⊎-elim (λ a. ⊎-elim (λ b. a .0 ∙ sym (b .0)) (λ b. never w (a .1) b) y) (λ a. ⊎-elim (λ b. never v (b .1) a) (least-unique o v w a) y) x
     where
       never : {A : Type 0} (u : ℕ) → Empty n q → Least f n q u → A
       never u e l = untrue (sym (e u (l .place)) ∙ l .queued)
@@ -131,7 +133,8 @@ module _ (f : ℕ → Float) (n : ℕ) (q : ℕ → Bool) (few : n ≤ none) whe
   pub least-told : NoNan f n q → ((leastOf f n q ≡ none) × Empty n q) ⊎ Least f n q (leastOf f n q)
   unfolding leastOf
   least-told o =
-      least-unless-empty f n q few (leastOf f n q) least-held (λ j l e. scan-place f n q few n (omega arith) j l e) (λ j l e. scan-first f n q few o n (omega arith) j l e)
+      least-unless-empty f n q few (leastOf f n q) least-held (λ j l e. scan-place f n q few n (omega arith) j l e)
+      (λ j l e. scan-first f n q few o n (omega arith) j l e)
 
   -- it is queued, and no queued place is before it
   pub least-is-least : NoNan f n q → (j : ℕ) → j < n → q j ≡ true → Least f n q (leastOf f n q)

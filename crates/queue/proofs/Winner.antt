@@ -27,15 +27,18 @@ module _ (f : ℕ → Float) (n : ℕ) (q : ℕ → Bool) (t : List ℕ) (e : Tr
   -- ---- from a word up to word 1
 
   module _ (R : ℕ → ℕ → Type 0) (same : (a : ℕ) → R a a)
-      (up : (k : ℕ) → 0 < k → k < n → (v : ℕ) → R v (better f n (getD t (2 * k) 0) (getD t (2 * k + 1) 0)) → R v (getD t (2 * k) 0) × R v (getD t (2 * k + 1) 0)) where
+      (up : (k : ℕ) → 0 < k → k < n → (v : ℕ) → R v (better f n (getD t (2 * k) 0) (getD t (2 * k + 1) 0))
+      → R v (getD t (2 * k) 0) × R v (getD t (2 * k + 1) 0)) where
     climb : (d m : ℕ) → m ≤ d → 0 < m → m < 2 * n → R (getD t 1 0) (getD t m 0)
     climb zero m h z l = absurd (omega arith)
     climb (suc d) m h z l = go (climb d (m / 2)) (decLt 1 m)
       where
         go : (m / 2 ≤ d → 0 < m / 2 → m / 2 < 2 * n → R (getD t 1 0) (getD t (m / 2) 0)) → Dec (1 < m) → R (getD t 1 0) (getD t m 0)
         go r (yes g) =
-            let x = up (m / 2) (omega arith) (omega arith) (getD t 1 0) (rw (e .inner (m / 2) (omega arith) (omega arith)) at (r (omega arith) (omega arith) (omega arith))) in
-            ⊎-elim (λ s. subst (λ (v : ℕ). R (getD t 1 0) (getD t v 0)) (sym s) (x .0)) (λ s. subst (λ (v : ℕ). R (getD t 1 0) (getD t v 0)) (sym s) (x .1)) (halves m)
+            let above = r (omega arith) (omega arith) (omega arith) in
+            let x = up (m / 2) (omega arith) (omega arith) (getD t 1 0) (rw (e .inner (m / 2) (omega arith) (omega arith)) at above) in
+            ⊎-elim (λ s. subst (λ (v : ℕ). R (getD t 1 0) (getD t v 0)) (sym s) (x .0))
+            (λ s. subst (λ (v : ℕ). R (getD t 1 0) (getD t v 0)) (sym s) (x .1)) (halves m)
         go r (no g) = let s : 1 ≡ m = omega arith in subst (λ (v : ℕ). R (getD t 1 0) (getD t v 0)) s (same (getD t 1 0))
 
     -- a queued place's own word is the place
@@ -47,7 +50,10 @@ module _ (f : ℕ → Float) (n : ℕ) (q : ℕ → Bool) (t : List ℕ) (e : Tr
   root-place : (j : ℕ) → j < n → q j ≡ true → getD t 1 0 < n
   root-place j l g =
       to-place (λ v a. a < n → v < n) (λ a h. h)
-      (λ k z m v r. ((λ h. r (better-place-left f n (getD t (2 * k) 0) (getD t (2 * k + 1) 0) h)), λ h. r (better-place-right f n (getD t (2 * k) 0) (getD t (2 * k + 1) 0) h)))
+      (λ k z m v r. (
+        (λ h. r (better-place-left f n (getD t (2 * k) 0) (getD t (2 * k + 1) 0) h)),
+        λ h. r (better-place-right f n (getD t (2 * k) 0) (getD t (2 * k + 1) 0) h),
+      ))
       j l g l
 
   -- a queued place, or `none`
@@ -75,7 +81,8 @@ module _ (f : ℕ → Float) (n : ℕ) (q : ℕ → Bool) (t : List ℕ) (e : Tr
         Behind : ℕ → ℕ → Type 0
         Behind v a = T (not (isNan (f v))) → a < n → before f a v ≡ false
 
-        up : (k : ℕ) → 0 < k → k < n → (v : ℕ) → Behind v (better f n (getD t (2 * k) 0) (getD t (2 * k + 1) 0)) → Behind v (getD t (2 * k) 0) × Behind v (getD t (2 * k + 1) 0)
+        up : (k : ℕ) → 0 < k → k < n → (v : ℕ) → Behind v (better f n (getD t (2 * k) 0) (getD t (2 * k + 1) 0))
+            → Behind v (getD t (2 * k) 0) × Behind v (getD t (2 * k + 1) 0)
         up k z m v r = (left, right)
           where
             a : ℕ

@@ -1,5 +1,5 @@
--- The tree's words: there is exactly one list of 2n words that is the tree of a set of places, and `treeWords` is it. It depends on which places are queued and on
--- their f alone. Assumes nothing.
+-- The tree's words: there is exactly one list of 2n words that is the tree of a set of places, and `treeWords` is it. It depends on which places are
+-- queued and on their f alone. Assumes nothing.
 use Prim.Native.Nat.{ℕ, zero, suc, _+_, _-_, _*_, _≤_, _<_}
 use native.Mathlib.Omega.{arith}
 use native.Mathlib.Decide.{decLt}
@@ -23,7 +23,8 @@ own-number n k l = omega arith
 -- so what the leaves have and the better of two keeps, each word has: d is how far from the end word k stands at most
 module _ (f : ℕ → Float) (n : ℕ) (q : ℕ → Bool) (t : List ℕ) (e : Tree f n q t) where
   module _ (P : ℕ → ℕ → Type 0) (own : (i : ℕ) → i < n → P (n + i) (ownOf i (q i)))
-      (inner : (k : ℕ) → 0 < k → k < n → P (2 * k) (getD t (2 * k) 0) → P (2 * k + 1) (getD t (2 * k + 1) 0) → P k (better f n (getD t (2 * k) 0) (getD t (2 * k + 1) 0))) where
+      (inner : (k : ℕ) → 0 < k → k < n → P (2 * k) (getD t (2 * k) 0) → P (2 * k + 1) (getD t (2 * k + 1) 0)
+      → P k (better f n (getD t (2 * k) 0) (getD t (2 * k + 1) 0))) where
     each-from : (d k : ℕ) → 0 < k → k < 2 * n → 2 * n ≤ k + d → P k (getD t k 0)
     each-from zero k z l h = absurd (omega arith)
     each-from (suc d) k z l h = go (decLt k n) (each-from d (2 * k)) (each-from d (2 * k + 1))
@@ -156,12 +157,14 @@ module _ (f g : ℕ → Float) (n : ℕ) (q p : ℕ → Bool) (few : n ≤ none)
     own = λ i l. e .own i l ∙ own-same f g n q p few qp fg i l;
     inner = λ k z l.
         e .inner k z l
-        ∙ better-alike f g n q p few qp fg (getD t (2 * k) 0) (getD t (2 * k + 1) 0) (words-held f n q t e (2 * k) (omega arith) (omega arith)) (words-held f n q t e (2 * k + 1) (omega arith) (omega arith));
+        ∙ better-alike f g n q p few qp fg (getD t (2 * k) 0) (getD t (2 * k + 1) 0) (words-held f n q t e (2 * k) (omega arith) (omega arith))
+        (words-held f n q t e (2 * k + 1) (omega arith) (omega arith));
   }
 
   pub words-same : treeWords f n q ≡ treeWords g n p
   words-same =
-      sym (take-all (2 * n) (treeWords f n q) (rw (words-length f n q) (omega arith))) ∙ tree-front g n p (treeWords f n q) (tree-same (treeWords f n q) (words-tree f n q))
+      sym (take-all (2 * n) (treeWords f n q) (rw (words-length f n q) (omega arith)))
+      ∙ tree-front g n p (treeWords f n q) (tree-same (treeWords f n q) (words-tree f n q))
 
 -- ---- the tree of no queued place
 

@@ -62,7 +62,8 @@ Empty n q = (i : ℕ) → i < n → q i ≡ false
 
 -- ---- the tree
 
--- The first 2n words of a list are the tree. Word n + i is place i's own, each word k from 1 below n is the better of words 2k and 2k + 1, and word 0 is `none`.
+-- The first 2n words of a list are the tree. Word n + i is place i's own, each word k from 1 below n is the better of words 2k and 2k + 1, and word 0 is
+-- `none`.
 pub record Tree (f : ℕ → Float) (n : ℕ) (q : ℕ → Bool) (t : List ℕ) : Type 0 where
   pub size : 2 * n ≤ length t
   pub unused : 0 < n → getD t 0 0 ≡ none

@@ -2,8 +2,8 @@
 use mathlib.Core.Path.{_∙_}
 use native.Mathlib.Omega.{arith}
 use lib.ListN.{length-set}
-use Rattle.queue.specs.Climb.{pathRepaired}
 use borrow.Author.Needs.{needs}
+use Rattle.queue.proofs.Ways.{path-told}
 use Rattle.queue.proofs.place.Statement.{statement}
 use Rattle.queue.proofs.place.Tie as tie
 
@@ -14,13 +14,6 @@ climb-requires c κs =
 
 same-length : tie.Need-same-length
 same-length c = c .before .before .climb .kept .0 ∙ simp length-set
-
-returns : tie.Need-returns
-unfolding pathRepaired
-returns c =
-    let at-climb = c .before .before in
-    let at-own = at-climb .before .before in
-    rw (← at-own .own .ensures) (at-climb .climb .ensures)
 
 pub place-spec : {M : Type 1} → statement M
 place-spec =
@@ -33,4 +26,4 @@ place-spec =
     (λ c. search needs)
     climb-requires
     same-length
-    returns)
+    (λ c. search (needs, path-told)))
