@@ -56,6 +56,10 @@ and-no : (a : Bool) → a && false ≡ false
 and-no true = refl
 and-no false = refl
 
+or-no : (a : Bool) → a || false ≡ a
+or-no true = refl
+or-no false = refl
+
 module _ (file : List ℕ) (i : ℕ) where
   permittedAt : Permitted → Bool
   permittedAt (Yes s) = isStepAt s file i
@@ -180,6 +184,9 @@ module _ (plan vs ps : List ℕ) (node : Node) (h : Stands plan vs ps node) (fil
         ∙ among-first file i (stepOf f node (successorAt edge walked k)) (fromPart f node edge walked (k + 1))
         ∙ ap (λ (b : Bool). b || from (k + 1)) (sym (here-is k))
 
+    none-from : (k : ℕ) → walked .count ≤ k → from k ≡ false
+    none-from k l = ap (λ (steps : List Step). isAmong steps file i) (from-none f node edge walked yielded k l) ∙ among-none file i
+
     module _ (k : ℕ) (inv : from 0 ≡ from k) where
       pub part-found : k < walked .count → here k ≡ true → from 0 ≡ true
       part-found l t = inv ∙ next-is k l ∙ ap (λ (b : Bool). b || from (k + 1)) t
@@ -188,7 +195,11 @@ module _ (plan vs ps : List ℕ) (node : Node) (h : Stands plan vs ps node) (fil
       part-passed l t = inv ∙ next-is k l ∙ ap (λ (b : Bool). b || from (k + 1)) t
 
       pub parts-passed : walked .count ≤ k → from 0 ≡ false
-      parts-passed l = inv ∙ ap (λ (steps : List Step). isAmong steps file i) (from-none f node edge walked yielded k l) ∙ among-none file i
+      parts-passed l = inv ∙ none-from k l
+
+      -- the last part decides
+      pub part-decides : k < walked .count → walked .count ≤ k + 1 → from 0 ≡ here k
+      part-decides l m = inv ∙ next-is k l ∙ ap (λ (b : Bool). here k || b) (none-from (k + 1) m) ∙ or-no (here k)
 
   -- ---- the edges
 

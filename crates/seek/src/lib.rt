@@ -128,7 +128,8 @@ struct Looked {
     next: Round,
 }
 
-// Walks the round's edge and looks for the record among the steps over its parts, where it is of a step over that edge at all.
+// Walks the round's edge and looks for the record among the steps over its parts, where it is of a step over that edge at all. The parts
+// are asked one by one, not in a loop, so that they need not lie in memory and the stack stays small.
 fn look_on_edge(
     vertices: &[u8],
     polygons: &[u8],
@@ -156,15 +157,26 @@ fn look_on_edge(
     if !is_over(polygons, plan, node.polygon as usize, edge, route, i) {
         return Looked { found: false, next };
     }
-    let mut k = 0;
-    while k < walked.count {
-        let part = walked.parts[k];
-        if is_part(vertices, plan, node, part, route, i) {
-            return Looked { found: true, next };
-        }
-        k += 1;
+    if walked.count < 1 {
+        return Looked { found: false, next };
     }
-    Looked { found: false, next }
+    let one = walked.parts[0];
+    if is_part(vertices, plan, node, one, route, i) {
+        return Looked { found: true, next };
+    }
+    if walked.count < 2 {
+        return Looked { found: false, next };
+    }
+    let two = walked.parts[1];
+    if is_part(vertices, plan, node, two, route, i) {
+        return Looked { found: true, next };
+    }
+    if walked.count < 3 {
+        return Looked { found: false, next };
+    }
+    let three = walked.parts[2];
+    let found = is_part(vertices, plan, node, three, route, i);
+    Looked { found, next }
 }
 
 // Whether the record is a step out of the node. Nothing steps out of the goal polygon.

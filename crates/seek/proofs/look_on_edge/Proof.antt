@@ -1,9 +1,9 @@
--- `seek::look_on_edge` meets its contract. The loop's invariant: the record is sought among the parts that are left of the edge. Assumes nothing.
-use Prim.Native.Nat.{ℕ, _-_, _<_}
+-- `seek::look_on_edge` meets its contract: part by part, the record is sought among those that are left of the edge. Assumes nothing.
+use Prim.Native.Nat.{ℕ, _<_}
 use native.Mathlib.Omega.{arith}
 use denote.Ref.{now}
 use mathlib.Core.Path.{_≡_, refl, sym, ap, ap₂, _∙_, subst}
-use mathlib.Core.Bool.{true}
+use mathlib.Core.Bool.{Bool, true}
 use borrow.Author.Needs.{needs}
 use borrow.Author.Tests.{not-true, not-false}
 use Rattle.walk.specs.declared.Walked.{Walked}
@@ -16,82 +16,101 @@ use Rattle.going.proofs.Rounds.{on-yields, turning}
 use Rattle.going.proofs.Stepping.{polygon-lies, edge-inside}
 use Rattle.going.proofs.Parts.{fromPart}
 use Rattle.seek.specs.Seek.{isAmong, edgeStands}
-use Rattle.seek.proofs.Seeking.{none-over, part-found, part-passed, parts-passed}
+use Rattle.seek.proofs.Seeking.{none-over, part-found, part-passed, parts-passed, part-decides}
 use Rattle.seek.proofs.look_on_edge.Statement.{statement}
 use Rattle.seek.proofs.look_on_edge.Tie as tie
 
-abbrev Inv-loop : tie.InvT-loop
-Inv-loop vertices polygons plan node route i edge walked next k₀ k =
-    let f = floorIn plan vertices polygons in
-    isAmong (fromPart f node edge walked 0) route i ≡ isAmong (fromPart f node edge walked k) route i
-
-abbrev μ-loop : tie.MeasureT-loop
-μ-loop vertices polygons plan node route i edge walked next k₀ k = walked .count - k
-
 -- ---- places
 
-abbrev start : tie.After-edge Inv-loop μ-loop → tie.Start Inv-loop μ-loop
+abbrev start : tie.After-edge → tie.Start
 start c = c .before .before .before .before
 
-abbrev stepped : tie.After-is-over Inv-loop μ-loop → tie.After-next Inv-loop μ-loop
+abbrev stepped : tie.After-is-over → tie.After-next
 stepped c = c .before .before
 
-abbrev walking : tie.After-is-over Inv-loop μ-loop → tie.After-walk Inv-loop μ-loop
+abbrev walking : tie.After-is-over → tie.After-walk
 walking c = stepped c .before
 
-abbrev begun : tie.After-is-over Inv-loop μ-loop → tie.Start Inv-loop μ-loop
+abbrev begun : tie.After-is-over → tie.Start
 begun c = start (walking c .before)
 
--- whether the edge is the record's
-abbrev asked : tie.At-loop Inv-loop μ-loop → tie.After-is-over Inv-loop μ-loop
-asked l = l .before .before
+-- behind the first part's asking, the second's and the third's
+abbrev first-on : tie.After-is-part → tie.Else2
+first-on c = c .before .before
 
--- the turn in which a part was asked
-abbrev asking : tie.After-is-part Inv-loop μ-loop → tie.In-loop Inv-loop μ-loop
-asking c = c .before .before
+abbrev second-on : tie.After-is-part2 → tie.Else4
+second-on c = c .before .before
 
-abbrev floor : tie.Start Inv-loop μ-loop → Floor
+abbrev third-on : tie.After-is-part3 → tie.Else6
+third-on c = c .before .before
+
+-- whether the edge is the record's, seen from there
+abbrev asked : tie.Else2 → tie.After-is-over
+asked c = c .before .before
+
+abbrev asked-before : tie.Else3 → tie.After-is-over
+asked-before c = asked (first-on (c .before))
+
+abbrev asked-at-last : tie.Else5 → tie.After-is-over
+asked-at-last c = asked-before (second-on (c .before) .before)
+
+abbrev floor : tie.Start → Floor
 floor s = floorIn (now (s .args .plan)) (now (s .args .vertices)) (now (s .args .polygons))
 
 -- ---- what is known
 
-turns : (s : tie.Start Inv-loop μ-loop) → Turning (now (s .args .plan)) (now (s .args .polygons)) (s .args .node) (s .args .round)
+turns : (s : tie.Start) → Turning (now (s .args .plan)) (now (s .args .polygons)) (s .args .node) (s .args .round)
 turns s = turning _ _ _ (s .args .node) (s .pre .0 .0) (s .args .round) (s .pre .1 .0) (s .pre .1 .1)
 
-yields : (c : tie.After-walk Inv-loop μ-loop) → Yielded (c .walk .result)
+yields : (c : tie.After-walk) → Yielded (c .walk .result)
 yields c = let s = start (c .before) in subst Yielded (sym (c .walk .ensures)) (on-yields (floor s) (s .args .node) (s .args .round))
 
-few : (c : tie.In-loop Inv-loop μ-loop) → c .before .loop .k < 3
-few c = omega (arith, yields (walking (asked (c .before))) .few, c .loop-test .taken)
+-- whether the record is among the steps over the edge's parts from the k-th on
+abbrev from : tie.After-is-over → ℕ → Bool
+from c k =
+    let s = begun c in
+    isAmong (fromPart (floor s) (s .args .node) (walking c .before .edge .result) (walking c .walk .result) k) (now (s .args .route)) (s .args .i)
 
-named : (l : tie.At-loop Inv-loop μ-loop) → let s = begun (asked l) in
-    edgeStands (recordIn (now (s .args .plan)) (now (s .args .polygons)) (s .args .node .polygon)) (walking (asked l) .before .edge .result)
+named : (c : tie.Else1) → let s = begun (c .before) in
+    edgeStands (recordIn (now (s .args .plan)) (now (s .args .polygons)) (s .args .node .polygon)) (walking (c .before) .before .edge .result)
     (now (s .args .route)) (s .args .i) ≡ true
-named l = sym (asked l .is-over .ensures) ∙ not-false _ (l .before .if1 .left)
+named c = sym (c .before .is-over .ensures) ∙ not-false _ (c .if1 .left)
 
 -- what the contract says of the edge, by what the code has of it
-as-said : (c : tie.After-is-over Inv-loop μ-loop) → let s = begun c in
-    isAmong (fromPart (floor s) (s .args .node) (walking c .before .edge .result) (walking c .walk .result) 0) (now (s .args .route)) (s .args .i)
-    ≡ isAmong (fromPart (floor s) (s .args .node) (edgeNumberOf (s .args .round)) (walkedOn (floor s) (s .args .node) (s .args .round)) 0)
+as-said : (c : tie.After-is-over) → let s = begun c in
+    from c 0 ≡ isAmong (fromPart (floor s) (s .args .node) (edgeNumberOf (s .args .round)) (walkedOn (floor s) (s .args .node) (s .args .round)) 0)
     (now (s .args .route)) (s .args .i)
 as-said c =
     let s = begun c in
     ap₂ (λ (e : ℕ) (w : Walked). isAmong (fromPart (floor s) (s .args .node) e w 0) (now (s .args .route)) (s .args .i))
     (walking c .before .edge .ensures) (walking c .walk .ensures)
 
-next-is : (c : tie.After-is-over Inv-loop μ-loop) → let s = begun c in
+next-is : (c : tie.After-is-over) → let s = begun c in
     stepped c .next .result ≡ nextOf (s .args .round) (walkedOn (floor s) (s .args .node) (s .args .round) .kind)
 next-is c = stepped c .next .ensures ∙ ap (λ w. nextOf (begun c .args .round) (w .kind)) (walking c .walk .ensures)
 
--- ---- before the loop
+-- the first part is not it, nor is the second
+one-passed : (c : tie.Else3) → from (asked-before c) 0 ≡ from (asked-before c) 1
+one-passed c =
+    let on = first-on (c .before) in
+    let s = begun (asked on) in
+    part-passed _ _ _ (s .args .node) (s .pre .0 .0) (now (s .args .route)) (s .args .i) (s .pre .0 .1) _ (named (on .before)) _ (yields (walking (asked on)))
+    0 refl (omega (arith, on .if2 .left)) (sym (c .before .is-part .ensures) ∙ c .if3 .left)
 
-edge-requires : tie.Need-edge-requires Inv-loop μ-loop
+two-passed : (c : tie.Else5) → from (asked-at-last c) 0 ≡ from (asked-at-last c) 2
+two-passed c =
+    let on = second-on (c .before) in
+    let one = first-on (on .before .before) in
+    let s = begun (asked one) in
+    part-passed _ _ _ (s .args .node) (s .pre .0 .0) (now (s .args .route)) (s .args .i) (s .pre .0 .1) _ (named (one .before)) _ (yields (walking (asked one)))
+    1 (one-passed (on .before)) (omega (arith, on .if4 .left)) (sym (c .before .is-part2 .ensures) ∙ c .if5 .left)
+
+-- ---- the edge
+
+edge-requires : tie.Need-edge-requires
 edge-requires c κs = let t = turns (c .before .before .before) in (t .entry-in, t .taken-in)
 
-walk-requires : tie.Need-walk-requires Inv-loop μ-loop
-walk-requires c κs = (start c .pre .0 .0, turns (start c))
-
-is-over-requires : tie.Need-is-over-requires Inv-loop μ-loop
+is-over-requires : tie.Need-is-over-requires
 is-over-requires c κs =
     let at-edge = c .before .before .before in
     let s = start at-edge in
@@ -101,7 +120,7 @@ is-over-requires c κs =
       s .pre .1 .2,
     )
 
-returns : tie.Need-returns Inv-loop μ-loop
+returns : tie.Need-returns
 returns c =
     let by = c .before in
     let s = begun by in (
@@ -110,46 +129,88 @@ returns c =
       next-is by,
     )
 
--- ---- a part
+-- ---- its parts
 
-is-part-requires : tie.Need-is-part-requires Inv-loop μ-loop
+returns-2 : tie.Need-returns-2
+returns-2 c =
+    let by = c .before .before in
+    let s = begun by in (
+      sym (sym (as-said by) ∙ parts-passed _ _ _ (s .args .node) (s .pre .0 .0) (now (s .args .route)) (s .args .i) (s .pre .0 .1) _ (named (c .before)) _
+          (yields (walking by)) 0 refl (omega (arith, c .if2 .taken))),
+      next-is by,
+    )
+
+returns-3 : tie.Need-returns-3
+returns-3 c =
+    let on = first-on (c .before) in
+    let s = begun (asked on) in (
+      sym (sym (as-said (asked on)) ∙ part-found _ _ _ (s .args .node) (s .pre .0 .0) (now (s .args .route)) (s .args .i) (s .pre .0 .1) _
+          (named (on .before)) _
+          (yields (walking (asked on))) 0 refl (omega (arith, on .if2 .left)) (sym (c .before .is-part .ensures) ∙ c .if3 .taken)),
+      next-is (asked on),
+    )
+
+returns-4 : tie.Need-returns-4
+returns-4 c =
+    let one = first-on (c .before .before) in
+    let s = begun (asked one) in (
+      sym (sym (as-said (asked one)) ∙ parts-passed _ _ _ (s .args .node) (s .pre .0 .0) (now (s .args .route)) (s .args .i) (s .pre .0 .1) _
+          (named (one .before)) _ (yields (walking (asked one))) 1 (one-passed (c .before)) (omega (arith, c .if4 .taken))),
+      next-is (asked one),
+    )
+
+returns-5 : tie.Need-returns-5
+returns-5 c =
+    let on = second-on (c .before) in
+    let one = first-on (on .before .before) in
+    let s = begun (asked one) in (
+      sym (sym (as-said (asked one)) ∙ part-found _ _ _ (s .args .node) (s .pre .0 .0) (now (s .args .route)) (s .args .i) (s .pre .0 .1) _
+          (named (one .before)) _
+          (yields (walking (asked one))) 1 (one-passed (on .before)) (omega (arith, on .if4 .left)) (sym (c .before .is-part2 .ensures) ∙ c .if5 .taken)),
+      next-is (asked one),
+    )
+
+returns-6 : tie.Need-returns-6
+returns-6 c =
+    let by = asked-at-last (c .before) in
+    let one = first-on (second-on (c .before .before) .before .before) in
+    let s = begun by in (
+      sym (sym (as-said by) ∙ parts-passed _ _ _ (s .args .node) (s .pre .0 .0) (now (s .args .route)) (s .args .i) (s .pre .0 .1) _ (named (one .before)) _
+          (yields (walking by)) 2 (two-passed (c .before)) (omega (arith, c .if6 .taken))),
+      next-is by,
+    )
+
+returns-7 : tie.Need-returns-7
+returns-7 c =
+    let on = third-on c in
+    let by = asked-at-last (on .before) in
+    let one = first-on (second-on (on .before .before) .before .before) in
+    let s = begun by in (
+      c .is-part3 .ensures ∙ sym (sym (as-said by) ∙ part-decides _ _ _ (s .args .node) (s .pre .0 .0) (now (s .args .route)) (s .args .i) (s .pre .0 .1) _
+          (named (one .before)) _ (yields (walking by)) 2 (two-passed (on .before)) (omega (arith, on .if6 .left)) (omega (arith, yields (walking by) .few))),
+      next-is by,
+    )
+
+is-part-requires : tie.Need-is-part-requires
 is-part-requires c κs =
-    let s = begun (asked (c .before .before)) in
+    let s = begun (asked (c .before)) in
     ((s .pre .0 .1 .vertices-planned, s .pre .0 .0 .first-listed, s .pre .0 .0 .second-listed), s .pre .1 .2)
 
-returns-2 : tie.Need-returns-2 Inv-loop μ-loop
-returns-2 c =
-    let turn = asking (c .before) in
-    let l = turn .before in
-    let s = begun (asked l) in (
-      sym (sym (as-said (asked l)) ∙ part-found _ _ _ (s .args .node) (s .pre .0 .0) (now (s .args .route)) (s .args .i) (s .pre .0 .1) _ (named l) _
-          (yields (walking (asked l))) (l .loop .k) (l .loop .inv) (turn .loop-test .taken) (sym (c .before .is-part .ensures) ∙ c .if2 .taken)),
-      next-is (asked l),
-    )
+is-part-requires-2 : tie.Need-is-part-requires-2
+is-part-requires-2 c κs =
+    let s = begun (asked-before (c .before .before)) in
+    ((s .pre .0 .1 .vertices-planned, s .pre .0 .0 .first-listed, s .pre .0 .0 .second-listed), s .pre .1 .2)
 
-loop-again : tie.Need-loop-again Inv-loop μ-loop
-loop-again c =
-    let turn = asking (c .before) in
-    let l = turn .before in
-    let s = begun (asked l) in
-    part-passed _ _ _ (s .args .node) (s .pre .0 .0) (now (s .args .route)) (s .args .i) (s .pre .0 .1) _ (named l) _ (yields (walking (asked l)))
-    (l .loop .k) (l .loop .inv) (turn .loop-test .taken) (sym (c .before .is-part .ensures) ∙ c .if2 .left)
-
--- ---- behind the last
-
-returns-3 : tie.Need-returns-3 Inv-loop μ-loop
-returns-3 c =
-    let l = c .before in
-    let s = begun (asked l) in (
-      sym (sym (as-said (asked l)) ∙ parts-passed _ _ _ (s .args .node) (s .pre .0 .0) (now (s .args .route)) (s .args .i) (s .pre .0 .1) _ (named l) _
-          (yields (walking (asked l))) (l .loop .k) (l .loop .inv) (c .loop-test .left)),
-      next-is (asked l),
-    )
+is-part-requires-3 : tie.Need-is-part-requires-3
+is-part-requires-3 c κs =
+    let s = begun (asked-at-last (c .before .before)) in
+    ((s .pre .0 .1 .vertices-planned, s .pre .0 .0 .first-listed, s .pre .0 .0 .second-listed), s .pre .1 .2)
 
 pub look-on-edge-spec : {M : Type 1} → statement M
 look-on-edge-spec =
     tie.close
-    (tie.spec Inv-loop μ-loop edge-requires walk-requires (λ c κs. turns (start (c .before)) .taken-in) (λ c. search needs) is-over-requires returns
-    (λ c. refl)
-    (λ c. omega (arith, few c)) few is-part-requires returns-2 (λ c. omega (arith, few (asking (c .before))))
-    (λ c. omega (arith, asking (c .before) .loop-test .taken)) loop-again returns-3)
+    (tie.spec edge-requires (λ c κs. (start c .pre .0 .0, turns (start c))) (λ c κs. turns (start (c .before)) .taken-in) (λ c. search needs)
+    is-over-requires
+    returns returns-2 (λ c. omega (arith, yields (walking (asked c)) .three)) is-part-requires returns-3 returns-4
+    (λ c. omega (arith, yields (walking (asked-before (c .before))) .three)) is-part-requires-2 returns-5 returns-6
+    (λ c. omega (arith, yields (walking (asked-at-last (c .before))) .three)) is-part-requires-3 returns-7)
