@@ -9,7 +9,7 @@ use lib.Dec.{eqb}
 use lib.Ieee.{Float}
 use lib.ListN.{length, getD, set}
 use Rattle.queue.specs.Queue.{before, loneOf, better, ownOf, put, Tree}
-use Rattle.queue.specs.Words.{column, Rows, queuedIn, queueOf}
+use Rattle.queue.specs.Words.{Rows, queuedIn, queueOf}
 use Rattle.queue.specs.Climb.{repaired, stays, climbed, pathRepaired}
 use Rattle.queue.proofs.Order.{better-lone}
 use Rattle.queue.proofs.Lent.{row-inside}
