@@ -61,16 +61,16 @@ pub fn contains(
 {
     let slots = plan::slots(plan);
     let mut i = 0;
-    while i < slots {
+    while !is_right(vertices, polygons, plan, p, i, point) {
+        i += 1;
+        if slots <= i {
+            return true;
+        }
         if stored::corner(polygons, plan, p, i) == UNUSED {
             return true;
         }
-        if is_right(vertices, polygons, plan, p, i, point) {
-            return false;
-        }
-        i += 1;
     }
-    true
+    false
 }
 
 // The lowest-numbered polygon that contains a point, or the number of polygons.

@@ -12,7 +12,6 @@ use plan::mark;
 use stored::UNUSED;
 use stored::corner;
 use stored::corner_after;
-use stored::corner_count;
 use stored::neighbour;
 
 // Marks both ends of edge i of polygon p, if it is a wall.
@@ -29,16 +28,19 @@ fn mark_edge(polygons: &[u8], plan: &[u32; PLAN], p: usize, i: usize, marks: &mu
     }
 }
 
-// Marks the ends of the walls of polygon p.
+// Marks the ends of the walls of polygon p. It goes to the first unused slot, so that the corners are not counted before.
 fn mark_edges(polygons: &[u8], plan: &[u32; PLAN], p: usize, marks: &mut [u32; PLAN])
     requires { ⌜ Lies (now plan) (now polygons) p ⌝ }
     requires { ⌜ Corners (vertexCountIn (now plan)) (recordIn (now plan) (now polygons) p) × (vertexCountIn (now plan) ≤ mostVertices) ⌝ }
     ensures { λ _. let q = recordIn (now (plan .entry)) (now (polygons .entry)) p in
         ⌜ now (marks .exit) ≡ markEdges q (cornerCount q) (now (marks .entry)) ⌝ }
 {
-    let n = corner_count(polygons, plan, p);
+    let slots = plan::slots(plan);
     let mut i = 0;
-    while i < n {
+    while i < slots {
+        if corner(polygons, plan, p, i) == UNUSED {
+            return;
+        }
         mark_edge(polygons, plan, p, i, marks);
         i += 1;
     }

@@ -13,7 +13,7 @@ use Rattle.counts.specs.Counts.{every}
 use Rattle.counts.proofs.Laws.{every-true, every-false, some-true, some-false}
 use Rattle.plan.specs.Plan.{slotsIn, polygonCountIn}
 use Rattle.stored.specs.Stored.{Polygon, unused, corner, neighbour, cornerCount, cornerAfter, slotIn, recordIn, polygonIn, polygonsIn, PolygonsPlanned}
-use Rattle.stored.proofs.Records.{polygon-read, corner-slots, neighbour-slots, count-slots, count-upto, count-past}
+use Rattle.stored.proofs.Records.{polygon-read, corner-slots, neighbour-slots, Upto, upto-none, ends-with-slots, ends-here, goes-on, upto-more}
 use Rattle.faults.specs.Tests.{coordinateRight, pointRight, restUnused, unlikeEarlier, distinct, cornersListed, cornersRight}
 use Rattle.faults.specs.Tests.{isBack, namesBack, linkRight, linksRight}
 use Rattle.faults.proofs.Rest.{rest-by, rest-corners, rest-neighbours-by}
@@ -94,21 +94,6 @@ module _ (q : Polygon) {n : ℕ} (counted : n ≡ cornerCount q) where
 
 module _ {plan ps : List ℕ} (planned : PolygonsPlanned plan ps) (p : ℕ) (listed : p < polygonCountIn plan)
     {n : ℕ} (counted : n ≡ cornerCount (recordIn plan ps p)) where
-  -- ---- 6
-
-  module _ {a : Bool} (linked : a ≡ every n (linkRight (polygonsIn plan ps) p)) where
-    pub links-wrong : a ≡ false → a ≡ linksRight (polygonsIn plan ps) p
-    unfolding linksRight
-    links-wrong e = rw (polygon-read planned p listed, ← counted, ← linked, e)
-
-    pub links-by-rest : a ≡ true → {s : ℕ} → s ≡ slotsIn plan → {b : Bool} → b ≡ restUnused (λ i. slotIn plan ps p (s + i)) (slotsIn plan) n
-        → b ≡ linksRight (polygonsIn plan ps) p
-    unfolding linksRight
-    links-by-rest e slots rest =
-        rw (polygon-read planned p listed, ← counted, ← linked, e, neighbour-slots _ _ _, rest-neighbours-by _ _ _ slots _, ← rest)
-
-  -- ---- 5
-
   module _ (count : ℕ) where
     pub corners-few : n < 3 → leb 3 n ≡ cornersRight count (polygonIn (polygonsIn plan ps) p)
     unfolding cornersRight
@@ -147,40 +132,68 @@ module _ (q : Polygon) (p a b j : ℕ) {x : ℕ} (begins : x ≡ corner q j) whe
     unfolding isBack
     back-by-neighbour g across = rw (← begins, eq-eqb _ _ e, ← ends, eq-eqb _ _ g, ← across) refl
 
--- up to slot j every slot of q is used and no edge leads back
+-- up to slot j every slot of q is a corner's and no edge leads back
 pub record NoneBack (plan ps : List ℕ) (q p a b slots j : ℕ) : Type 0 where
-  pub all : slots ≡ slotsIn plan
-  pub low : j ≤ slots
-  pub used : (k : ℕ) → k < j → eqb (corner (recordIn plan ps q) k) unused ≡ false
+  pub upto : Upto plan ps q slots j
   pub none : (k : ℕ) → k < j → isBack (recordIn plan ps q) p a b k ≡ false
 
 pub none-yet : {plan ps : List ℕ} {q p a b slots : ℕ} → slots ≡ slotsIn plan → NoneBack plan ps q p a b slots 0
-none-yet e = record { all = e; low = omega arith; used = below-none _; none = below-none _ }
+none-yet e = record { upto = upto-none e; none = below-none _ }
 
 module _ {plan ps : List ℕ} {q p a b slots j : ℕ} (h : NoneBack plan ps q p a b slots j) where
   abbrev its : Polygon
   its = recordIn plan ps q
 
-  pub back-of-none : slots ≤ j → false ≡ namesBack its p a b
+  none-at-all : cornerCount its ≡ j → false ≡ namesBack its p a b
   unfolding namesBack
-  back-of-none l =
-      let end = count-slots (slotsIn plan) ps q in
-      sym (some-false _ _ (λ k m. h .none k (omega (arith, m, end, l, h .all))))
+  none-at-all e = sym (some-false _ _ (λ k m. h .none k (omega (arith, m, e))))
 
-  module _ (l : j < slots) {x : ℕ} (read : x ≡ corner its j) {u : Bool} (asked : u ≡ eqb x unused) where
-    pub back-of-ended : u ≡ true → false ≡ namesBack its p a b
-    unfolding namesBack
-    back-of-ended e =
-        let end = count-upto (slotsIn plan) ps q j (omega (arith, l, h .all)) (sym (unused-read asked read) ∙ e) in
-        sym (some-false _ _ (λ k m. h .none k (omega (arith, m, end))))
+  pub back-of-none : slots ≤ j → false ≡ namesBack its p a b
+  back-of-none l = none-at-all (ends-with-slots (h .upto) l)
 
-    module _ (e : u ≡ false) {r : Bool} (back : r ≡ isBack its p a b j) where
-      still-used : (k : ℕ) → k < j + 1 → eqb (corner its k) unused ≡ false
-      still-used = below-more _ _ (h .used) (sym (unused-read asked read) ∙ e)
+  module _ (l : j < slots) {x : ℕ} (read : x ≡ corner its j) where
+    pub back-of-ended : x ≡ unused → false ≡ namesBack its p a b
+    back-of-ended e = none-at-all (ends-here (h .upto) l read e)
 
+    module _ (e : x ≡ unused → ⊥) {r : Bool} (back : r ≡ isBack its p a b j) where
       pub back-here : r ≡ true → true ≡ namesBack its p a b
       unfolding namesBack
-      back-here g = sym (some-true _ _ j (count-past (slotsIn plan) ps q j (omega (arith, l, h .all)) still-used) (sym back ∙ g))
+      back-here g = sym (some-true _ _ j (goes-on (h .upto) l read e) (sym back ∙ g))
 
       pub none-here : r ≡ false → NoneBack plan ps q p a b slots (j + 1)
-      none-here g = record { all = h .all; low = omega arith; used = still-used; none = below-more _ _ (h .none) (sym back ∙ g) }
+      none-here g = record { upto = upto-more (h .upto) l read e; none = below-more _ _ (h .none) (sym back ∙ g) }
+
+-- up to slot i every slot of p is a corner's and its link is right
+pub record Linked (plan ps : List ℕ) (p slots i : ℕ) : Type 0 where
+  pub upto : Upto plan ps p slots i
+  pub right : (k : ℕ) → k < i → linkRight (polygonsIn plan ps) p k ≡ true
+
+pub linked-yet : {plan ps : List ℕ} {p slots : ℕ} → slots ≡ slotsIn plan → Linked plan ps p slots 0
+linked-yet e = record { upto = upto-none e; right = below-none _ }
+
+module _ {plan ps : List ℕ} {p slots i : ℕ} (h : Linked plan ps p slots i) (planned : PolygonsPlanned plan ps) (listed : p < polygonCountIn plan) where
+  by-rest : cornerCount (recordIn plan ps p) ≡ i → {b : Bool} → b ≡ restUnused (λ k. slotIn plan ps p (slots + k)) (slotsIn plan) i
+      → b ≡ linksRight (polygonsIn plan ps) p
+  unfolding linksRight
+  by-rest e rest =
+      rw (polygon-read planned p listed, e, every-true _ _ (h .right), neighbour-slots _ _ _, rest-neighbours-by _ _ _ (h .upto .all) _, ← rest)
+
+  none-left : slots ≤ i → true ≡ restUnused (λ k. slotIn plan ps p (slots + k)) (slotsIn plan) i
+  unfolding restUnused every
+  none-left l = let e : slotsIn plan - i ≡ 0 = omega (arith, l, h .upto .all) in rw e
+
+  pub links-all : slots ≤ i → true ≡ linksRight (polygonsIn plan ps) p
+  links-all l = by-rest (ends-with-slots (h .upto) l) (none-left l)
+
+  module _ (l : i < slots) {x : ℕ} (read : x ≡ corner (recordIn plan ps p) i) where
+    pub links-behind : x ≡ unused → {b : Bool} → b ≡ restUnused (λ k. slotIn plan ps p (slots + k)) (slotsIn plan) i
+        → b ≡ linksRight (polygonsIn plan ps) p
+    links-behind e = by-rest (ends-here (h .upto) l read e)
+
+    module _ (e : x ≡ unused → ⊥) {r : Bool} (asked : r ≡ linkRight (polygonsIn plan ps) p i) where
+      pub links-wrong : not r ≡ true → false ≡ linksRight (polygonsIn plan ps) p
+      unfolding linksRight
+      links-wrong g = rw (polygon-read planned p listed, every-false _ _ i (goes-on (h .upto) l read e) (was-not asked g))
+
+      pub linked-more : not r ≡ false → Linked plan ps p slots (i + 1)
+      linked-more g = record { upto = upto-more (h .upto) l read e; right = below-more _ _ (h .right) (was-so asked g) }

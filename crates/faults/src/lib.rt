@@ -5,7 +5,6 @@ ghost use mathlib.Core.Path.{_≡_};
 ghost use Prim.Native.Nat.{_+_, _*_, _/_, _≤_, _<_};
 ghost use lib.Dec.{eqb, ltb};
 ghost use lib.ListN.{length};
-ghost use Rattle.counts.specs.Counts.{every};
 ghost use Rattle.plan.specs.Plan.{slotsIn, vertexCountIn, polygonCountIn};
 ghost use Rattle.stored.specs.Stored.{unused, slotIn, recordIn, polygonIn, polygonsIn, cornerCount, Lies, PolygonsPlanned};
 ghost use Rattle.faults.specs.Tests.{lengthRight, coordinateRight, pointRight, restUnused, unlikeEarlier, distinct, cornersListed, cornersRight};
@@ -145,7 +144,7 @@ fn names_back(polygons: &[u8], plan: &[u32; PLAN], q: usize, p: u32, a: u32, b: 
     let slots = plan::slots(plan);
     let mut j = 0;
     while j < slots {
-        if is_unused(corner(polygons, plan, q, j)) {
+        if corner(polygons, plan, q, j) == UNUSED {
             return false;
         }
         if is_back(polygons, plan, q, p, a, b, j) {
@@ -177,26 +176,22 @@ fn link_right(polygons: &[u8], plan: &[u32; PLAN], p: usize, i: usize) -> bool
     names_back(polygons, plan, q, p as u32, a, b)
 }
 
-// 6: each of the n edges' links.
-fn all_linked(polygons: &[u8], plan: &[u32; PLAN], p: usize, n: usize) -> bool
-    requires { ⌜ PolygonsPlanned (now plan) (now polygons) × (p < polygonCountIn (now plan)) × (n ≤ slotsIn (now plan)) ⌝ }
-    ensures { λ r. ⌜ r ≡ every n (linkRight (polygonsIn (now (plan .entry)) (now (polygons .entry))) p) ⌝ }
+// 6: every link, and no neighbour in a slot that has no corner. The look comes to the first unused slot by itself, so that the corners are not
+// counted once more.
+pub fn links_right(polygons: &[u8], plan: &[u32; PLAN], p: usize) -> bool
+    requires { ⌜ PolygonsPlanned (now plan) (now polygons) × (p < polygonCountIn (now plan)) ⌝ }
+    ensures { λ r. ⌜ r ≡ linksRight (polygonsIn (now (plan .entry)) (now (polygons .entry))) p ⌝ }
 {
+    let slots = plan::slots(plan);
     let mut i = 0;
-    while i < n {
+    while i < slots {
+        if corner(polygons, plan, p, i) == UNUSED {
+            return rest_unused(polygons, plan, p, slots, i);
+        }
         if !link_right(polygons, plan, p, i) {
             return false;
         }
         i += 1;
     }
     true
-}
-
-// 6: every link, and no neighbour in a slot that has no corner.
-pub fn links_right(polygons: &[u8], plan: &[u32; PLAN], p: usize) -> bool
-    requires { ⌜ PolygonsPlanned (now plan) (now polygons) × (p < polygonCountIn (now plan)) ⌝ }
-    ensures { λ r. ⌜ r ≡ linksRight (polygonsIn (now (plan .entry)) (now (polygons .entry))) p ⌝ }
-{
-    let n = corner_count(polygons, plan, p);
-    all_linked(polygons, plan, p, n) && rest_unused(polygons, plan, p, plan::slots(plan), n)
 }

@@ -17,7 +17,7 @@ use Rattle.stored.specs.Stored.{Floor, Polygon, recordIn, floorIn, cornerCount,
 use Rattle.stored.proofs.Records.{polygon-read}
 use Rattle.steps.specs.declared.Node.{Node}
 use Rattle.steps.specs.Steps.{placeOf, entryOf}
-use Rattle.going.specs.Going.{wholeOf, walkBy, entryFor, countFor, beginRound, walkedAt, walkedOn, Yielded, Stands, Turning, Goes}
+use Rattle.going.specs.Going.{wholeOf, walkBy, entryFor, countFor, beginRound, walkedAt, walkedOn, Yielded, Stands, Goes}
 
 -- ---- a node is the seed, or it is not
 
@@ -77,6 +77,12 @@ unfolding walkedOn
 walked-as-on f node round e d = rw (← e) d
 
 -- ---- round the polygon
+
+-- a round of the node's polygon that is not over
+pub record Turning (plan polygons : List ℕ) (node : Node) (round : Round) : Type 0 where
+  pub entry-in : round .entry < round .count
+  pub taken-in : round .taken < round .count
+  pub edge-in : edgeNumberOf round < cornerCount (recordIn plan polygons (node .polygon))
 
 abbrev pub edgesLeft : Round → ℕ
 edgesLeft round = round .count - round .taken

@@ -75,12 +75,6 @@ pub record Stands (plan vertices polygons : List ℕ) (node : Node) : Type 0 whe
   pub second-listed : node .second < vertexCountIn plan
   pub entered : node .seed ≡ false → entryOf (floorIn plan vertices polygons) node < cornerCount (recordIn plan polygons (node .polygon))
 
--- a round of the node's polygon that is not over
-pub record Turning (plan polygons : List ℕ) (node : Node) (round : Round) : Type 0 where
-  pub entry-in : round .entry < round .count
-  pub taken-in : round .taken < round .count
-  pub edge-in : edgeNumberOf round < cornerCount (recordIn plan polygons (node .polygon))
-
 -- the round stands where it has come to by itself
 pub record Goes (q : Polygon) (node : Node) (round : Round) : Type 0 where
   pub entry-is : round .entry ≡ entryFor q node

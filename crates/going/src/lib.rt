@@ -2,11 +2,11 @@
 // every edge whole.
 
 ghost use mathlib.Core.Path.{_≡_};
-ghost use Prim.Native.Nat.{_≤_};
+ghost use Prim.Native.Nat.{_≤_, _<_};
 ghost use Rattle.plan.specs.Plan.{slotsIn};
-ghost use Rattle.stored.specs.Stored.{recordIn, floorIn, Lies};
+ghost use Rattle.stored.specs.Stored.{recordIn, floorIn, cornerCount, Lies};
 ghost use Rattle.steps.specs.Steps.{placeOf};
-ghost use Rattle.going.specs.Going.{wholeOf, walkBy, walkedOn, beginRound, Stands, Turning};
+ghost use Rattle.going.specs.Going.{wholeOf, walkBy, walkedAt, beginRound, Stands};
 use cut::SuccessorType;
 use plan::PLAN;
 use point::Segment;
@@ -58,20 +58,19 @@ pub fn place_of(polygons: &[u8], plan: &[u32; PLAN], p: usize, n: usize, v: u32)
     i
 }
 
-// What the walk yields on the round's edge, where the edge before it has left the round's kind.
+// What the walk yields on edge i, where kind is what the edge before it left.
 pub fn walk(
     vertices: &[u8],
     polygons: &[u8],
     plan: &[u32; PLAN],
     node: Node,
-    round: Round,
+    i: usize,
+    kind: SuccessorType,
 ) -> Walked
-    requires { ⌜ Stands (now plan) (now vertices) (now polygons) node × Turning (now plan) (now polygons) node round ⌝ }
-    ensures { λ r. ⌜ r ≡ walkedOn (floorIn (now (plan .entry)) (now (vertices .entry)) (now (polygons .entry))) node round ⌝ }
+    requires { ⌜ Stands (now plan) (now vertices) (now polygons) node × (i < cornerCount (recordIn (now plan) (now polygons) (node .polygon))) ⌝ }
+    ensures { λ r. ⌜ r ≡ walkedAt (floorIn (now (plan .entry)) (now (vertices .entry)) (now (polygons .entry))) node i kind ⌝ }
 {
-    let i = round.edge();
     let edge = edges::edge(vertices, polygons, plan, node.polygon as usize, i);
-    let kind = round.kind;
     walk_by(node, edge, kind)
 }
 

@@ -9,6 +9,7 @@ ghost use Rattle.stored.specs.Stored.{floorIn};
 ghost use Rattle.edges.specs.Ground.{Ground};
 ghost use Rattle.route.specs.Judge.{judgeOf};
 ghost use Rattle.steps.specs.World.{worldIn};
+ghost use Rattle.judge.specs.declared.Verdict.the-variants.{Read};
 ghost use Rattle.judge.specs.Verdict.{endOf, verdictOf, verdictTold};
 use floor::Look;
 use floor::Refusal;
@@ -78,6 +79,23 @@ pub fn judge_route(
     judge_end(trip, node, route, last)
 }
 
+// The same as a verdict. It stands in a function of its own, since what the look at the floor holds is done with by then, and its
+// room is free.
+fn read_route(
+    vertices: &[u8],
+    polygons: &[u8],
+    plan: &[u32; PLAN],
+    trip: Trip,
+    route: &[u8],
+) -> Verdict
+    requires { ⌜ Ground (now plan) (now vertices) (now polygons) × (trip .from < polygonCountIn (now plan)) ⌝ }
+    ensures { λ r.
+        let f = floorIn (now (plan .entry)) (now (vertices .entry)) (now (polygons .entry)) in
+        ⌜ r ≡ Read (judgeOf (worldIn f trip) (now (route .entry))) ⌝ }
+{
+    Verdict::Read(judge_route(vertices, polygons, plan, trip, route))
+}
+
 // 2 to 9, then 20, then the records in order. Nothing is asked of the caller.
 pub fn judge(vertices: &[u8], polygons: &[u8], question: &[u8], route: &[u8]) -> Verdict
     ensures { λ r. ⌜ r ≡ verdictOf 8 (now (vertices .entry)) (now (polygons .entry)) (now (question .entry)) (now (route .entry)) ⌝ }
@@ -86,8 +104,7 @@ pub fn judge(vertices: &[u8], polygons: &[u8], question: &[u8], route: &[u8]) ->
     match floor::look_with(vertices, polygons, question, &mut plan) {
         Look::Inside(from, to) => {
             let trip = Trip::of(question, from as u32, to as u32);
-            let judged = judge_route(vertices, polygons, &plan, trip, route);
-            Verdict::Read(judged)
+            read_route(vertices, polygons, &plan, trip, route)
         }
         Look::Refused(refusal) => Verdict::Refused(refusal),
     }

@@ -261,7 +261,8 @@ fn make_edge(
 {
     let node = from.node;
     let edge = round.edge();
-    let walked = going::walk(vertices, polygons, plan, node, round);
+    let kind = round.kind;
+    let walked = going::walk(vertices, polygons, plan, node, edge, kind);
     let kind = walked.kind;
     let next = round.next(kind);
     let mut counts = counts;

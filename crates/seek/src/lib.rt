@@ -151,10 +151,12 @@ fn look_on_edge(
         ⌜ r .next ≡ nextOf round (walkedOn f node round .kind) ⌝ }
 {
     let edge = round.edge();
-    let walked = going::walk(vertices, polygons, plan, node, round);
+    let over = is_over(polygons, plan, node.polygon as usize, edge, route, i);
+    let kind = round.kind;
+    let walked = going::walk(vertices, polygons, plan, node, edge, kind);
     let kind = walked.kind;
     let next = round.next(kind);
-    if !is_over(polygons, plan, node.polygon as usize, edge, route, i) {
+    if !over {
         return Looked { found: false, next };
     }
     if walked.count < 1 {

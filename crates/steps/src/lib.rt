@@ -20,12 +20,12 @@ pub struct Trip {
     pub to: u32,
 }
 
-// Where steps lead to: the polygon, the one that was left for it, the edge and the interval that it was entered by, the root,
-// which is the last point where the way turned, and how long the way to it is and how many points it has. The seed, where every
-// route begins, was entered by nothing and has left no other polygon than its own.
+// Where steps lead to: the polygon, the edge and the interval that it was entered by, the root, which is the last point where the
+// way turned, how long the way to it is and how many points it has, and the polygon that was left for it. The seed, where every
+// route begins, was entered by nothing and has left no other polygon than its own. What was left comes last: behind the flag, which
+// takes one byte, it would be copied in pieces.
 pub struct Node {
     pub seed: bool,
-    pub left: u32,
     pub polygon: u32,
     pub first: u32,
     pub second: u32,
@@ -33,6 +33,7 @@ pub struct Node {
     pub root: Point,
     pub length: f32,
     pub points: u32,
+    pub left: u32,
 }
 
 // How a route ends that goes on straight to the goal: how many points it has in all, and how long it is.

@@ -88,7 +88,8 @@ pub fn kth_step(
     let mut left = k;
     while !round.is_over() {
         let edge = round.edge();
-        let walked = going::walk(vertices, polygons, plan, node, round);
+        let kind = round.kind;
+        let walked = going::walk(vertices, polygons, plan, node, edge, kind);
         let counted = count_on_edge(polygons, plan, view, edge, walked, left);
         match counted {
             Counted::Here(step) => return Permitted::Yes(step),

@@ -6,6 +6,7 @@ use native.Mathlib.Decide.{decLt}
 use mathlib.Core.Path.{_≡_, refl, sym, _∙_, subst}
 use mathlib.Core.Bool.{Bool, true, false, not}
 use mathlib.Core.List.{List, []}
+use borrow.Author.Tests.{eq-eqb, ne-eqb}
 use lib.Dec.{T, eqb}
 use lib.ListN.{length, getD, List·getD-eq-default}
 use Rattle.counts.specs.Counts.{table}
@@ -77,22 +78,50 @@ module _ (s : ℕ) (bytes : List ℕ) (p : ℕ) where
       first-below (length (polygonAt s bytes p .corners)) (λ i. eqb (corner (polygonAt s bytes p) i) unused) j
       (subst (λ (n : ℕ). j < n) (sym corner-slots) l) e
 
-  -- and they go on while no slot is unused
-  pub count-past : (j : ℕ) → j < s → ((k : ℕ) → k < j + 1 → eqb (corner (polygonAt s bytes p) k) unused ≡ false)
+  -- and behind those that are corners comes another where its slot is used
+  pub count-on : (j : ℕ) → j < s → j ≤ cornerCount (polygonAt s bytes p) → eqb (corner (polygonAt s bytes p) j) unused ≡ false
       → j < cornerCount (polygonAt s bytes p)
   unfolding cornerCount
-  count-past j l used = go (decLt j (cornerCount (polygonAt s bytes p)))
+  count-on j l low used = go (decLt j (cornerCount (polygonAt s bytes p)))
     where
-      end : cornerCount (polygonAt s bytes p) ≤ j → eqb (corner (polygonAt s bytes p) (cornerCount (polygonAt s bytes p))) unused ≡ true
-      end h =
-          first-at (length (polygonAt s bytes p .corners)) (λ i. eqb (corner (polygonAt s bytes p) i) unused)
-          (subst (λ (n : ℕ). cornerCount (polygonAt s bytes p) < n) (sym corner-slots) (omega (arith, h, l)))
+      end : cornerCount (polygonAt s bytes p) ≡ j → eqb (corner (polygonAt s bytes p) j) unused ≡ true
+      end e =
+          subst (λ (k : ℕ). eqb (corner (polygonAt s bytes p) k) unused ≡ true) e
+          (first-at (length (polygonAt s bytes p .corners)) (λ i. eqb (corner (polygonAt s bytes p) i) unused)
+          (subst (λ (n : ℕ). cornerCount (polygonAt s bytes p) < n) (sym corner-slots) (omega (arith, e, l))))
 
       go : Dec (j < cornerCount (polygonAt s bytes p)) → j < cornerCount (polygonAt s bytes p)
       go (yes h) = h
-      go (no h) =
-          let m : cornerCount (polygonAt s bytes p) ≤ j = omega (arith, h) in
-          absurd (subst (λ (b : Bool). T (not b)) (sym (used (cornerCount (polygonAt s bytes p)) (omega (arith, m))) ∙ end m) tt)
+      go (no h) = absurd (subst (λ (b : Bool). T (not b)) (sym used ∙ end (omega (arith, low, h))) tt)
+
+-- ---- a loop from corner to corner
+
+-- it has come to slot i, and all before it are corners
+pub record Upto (plan bytes : List ℕ) (p slots i : ℕ) : Type 0 where
+  pub all : slots ≡ slotsIn plan
+  pub low : i ≤ cornerCount (recordIn plan bytes p)
+
+pub upto-none : {plan bytes : List ℕ} {p slots : ℕ} → slots ≡ slotsIn plan → Upto plan bytes p slots 0
+upto-none e = record { all = e; low = omega arith }
+
+module _ {plan bytes : List ℕ} {p slots i : ℕ} (h : Upto plan bytes p slots i) where
+  -- the slots are all
+  pub ends-with-slots : slots ≤ i → cornerCount (recordIn plan bytes p) ≡ i
+  ends-with-slots l = let few = count-slots (slotsIn plan) bytes p in omega (arith, few, l, h .all, h .low)
+
+  module _ (l : i < slots) {x : ℕ} (read : x ≡ corner (recordIn plan bytes p) i) where
+    -- it is unused
+    pub ends-here : x ≡ unused → cornerCount (recordIn plan bytes p) ≡ i
+    ends-here e =
+        let end = count-upto (slotsIn plan) bytes p i (omega (arith, l, h .all)) (rw (← read, eq-eqb _ _ e)) in
+        omega (arith, end, h .low)
+
+    -- it is a corner
+    pub goes-on : (x ≡ unused → ⊥) → i < cornerCount (recordIn plan bytes p)
+    goes-on e = count-on (slotsIn plan) bytes p i (omega (arith, l, h .all)) (h .low) (rw (← read, ne-eqb _ _ e))
+
+    pub upto-more : (x ≡ unused → ⊥) → Upto plan bytes p slots (i + 1)
+    upto-more e = let on = goes-on e in record { all = h .all; low = omega (arith, on) }
 
 -- ---- what the lists stand for
 

@@ -1,4 +1,4 @@
--- `faults::names_back` meets its contract: up to the slot where it stands every slot is used and no edge leads back. Assumes nothing.
+-- `faults::names_back` meets its contract: up to the slot where it stands every slot is a corner's and no edge leads back. Assumes nothing.
 use Prim.Native.Nat.{_-_}
 use native.Mathlib.Omega.{arith}
 use borrow.Author.Needs.{needs}
@@ -14,13 +14,11 @@ abbrev μ-loop : tie.MeasureT-loop
 
 loop-again : tie.Need-loop-again Inv-loop μ-loop
 loop-again c =
-    let asked-back = c .before in
-    let used = asked-back .before in
-    let asked-used = used .before in
-    let read = asked-used .before in
+    let asked = c .before in
+    let used = asked .before in
+    let read = used .before in
     let turn = read .before in
-    none-here (turn .before .loop .inv) (turn .loop-test .taken) (read .corner .ensures) (asked-used .is-unused .ensures) (used .if1 .left)
-    (asked-back .is-back .ensures) (c .if2 .left)
+    none-here (turn .before .loop .inv) (turn .loop-test .taken) (read .corner .ensures) (used .if1 .left) (asked .is-back .ensures) (c .if2 .left)
 
 pub names-back-spec : {M : Type 1} → statement M
 names-back-spec =
@@ -30,7 +28,6 @@ names-back-spec =
     μ-loop
     (λ c κs. search needs)
     (λ c. search (needs, none-yet))
-    (λ c κs. search needs)
     (λ c κs. search needs)
     (λ c. search (needs, back-of-ended))
     (λ c κs. search needs)

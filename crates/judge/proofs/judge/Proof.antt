@@ -35,8 +35,8 @@ known c =
 
 -- ---- inside
 
-judge-route-requires : tie.Need-judge-route-requires
-judge-route-requires c κs =
+read-route-requires : tie.Need-read-route-requires
+read-route-requires c κs =
     let tripped = c .before in
     let h = known (tripped .before) in
     let from-is = sym (ap (λ (t : Trip). t .from) (tripped .of .ensures)) in
@@ -47,7 +47,7 @@ returns c =
     let tripped = c .before .before in
     let told = tripped .before in
     judges-inside 8 _ _ _ _ (looking told .look-with .ensures .0) (told .before .from .given .1) (known told .slots-are) (tripped .of .ensures)
-    (c .judge-route .ensures)
+    (c .read-route .ensures)
 
 -- ---- refused
 
@@ -58,5 +58,5 @@ pub judge-spec : {M : Type 1} → statement M
 judge-spec =
     tie.close
     (tie.spec (λ c κs. search needs) (λ c. search needs) (λ c. let h = known c .asking in omega (arith, h .from-listed, h .few))
-    (λ c. let h = known c .asking in omega (arith, h .to-listed, h .few)) (λ c κs. known c .asking .long) judge-route-requires (λ c. search needs) returns
+    (λ c. let h = known c .asking in omega (arith, h .to-listed, h .few)) (λ c κs. known c .asking .long) read-route-requires (λ c. search needs) returns
     returns-2)

@@ -3,9 +3,10 @@ use Prim.Native.Nat.{_-_, _<_}
 use native.Mathlib.Omega.{arith}
 use borrow.Author.Needs.{needs}
 use denote.Ref.{now}
+use mathlib.Core.Path.{_≡_}
 use Rattle.stored.specs.Stored.{floorIn}
-use Rattle.going.specs.Going.{Turning}
-use Rattle.going.proofs.Rounds.{turning}
+use Rattle.going.specs.Going.{walkedOn}
+use Rattle.going.proofs.Rounds.{Turning, turning, walked-as-on}
 use Rattle.going.proofs.Stepping.{edge-inside}
 use Rattle.places.specs.Layout.{workOf}
 use Rattle.machine.specs.Search.{stateOf}
@@ -51,6 +52,11 @@ turned c = turn (c .before)
 turns : (s : tie.Start Inv-loop μ-loop) → Turning (now (s .args .plan)) (now (s .args .polygons)) (s .args .from .node) (s .args .round)
 turns s = turning _ _ _ (s .args .from .node) (s .pre .1 .0 .stands) (s .args .round) (s .pre .1 .1 .1 .0) (s .pre .1 .1 .1 .1)
 
+-- what the code walks is what the round's edge yields
+walks : (c : tie.After-walk Inv-loop μ-loop) → let s = begun (c .before) in
+    c .walk .result ≡ walkedOn (floorIn (now (s .args .plan)) (now (s .args .vertices)) (now (s .args .polygons))) (s .args .from .node) (s .args .round)
+walks c = let s = begun (c .before) in walked-as-on _ (s .args .from .node) (s .args .round) (c .before .edge .ensures) (c .walk .ensures)
+
 few : (c : tie.In-loop Inv-loop μ-loop) → looping c .loop .k < 3
 few c = one-of-three (looping c .loop .inv .yielded) (looping c .loop .k) (c .loop-test .taken)
 
@@ -72,7 +78,7 @@ returns c =
     let t = turned m in
     let l = looping t in
     let n = l .before in
-    let walked = n .before .walk .ensures in (
+    let walked = walks (n .before) in (
       parts-full (l .loop .inv) (t .loop-test .taken) (m .make-part .ensures) (c .if1 .taken) (edged n .edge .ensures) walked,
       next-as _ (n .next .ensures) walked,
     )
@@ -92,9 +98,9 @@ make-edge-spec =
     Inv-loop
     μ-loop
     (λ c κs. let t = turns (start c) in (t .entry-in, t .taken-in))
-    (λ c κs. (search needs, turns (begun c)))
+    (λ c κs. (search needs, rw (c .edge .ensures) (turns (begun c) .edge-in)))
     (λ c κs. turns (begun (c .before)) .taken-in)
-    (λ c. search (needs, parts-begin))
+    (λ c. search (needs, parts-begin, walks (c .before)))
     (λ c. omega (arith, few c))
     few
     make-part-requires
@@ -108,4 +114,4 @@ make-edge-spec =
     (λ c. search needs)
     (λ c. search needs)
     (λ c. search needs)
-    (λ c. (search (needs, parts-over), search (needs, next-as))))
+    (λ c. let n = c .before .before in (search (needs, parts-over, walks (n .before)), next-as _ (n .next .ensures) (walks (n .before)))))

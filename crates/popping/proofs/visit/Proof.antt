@@ -17,8 +17,11 @@ was s = stateOf (workOf (now (s .args .floats)) (now (s .args .words)) (now (s .
 abbrev read : tie.After-number-at → tie.After-node-at
 read c = c .before .before
 
+abbrev begun : tie.After-node-at → tie.Start
+begun c = c .before .before .before .before .before .before .before .before
+
 abbrev start : tie.After-number-at → tie.Start
-start c = read c .before .before .before .before .before .before .before .before
+start c = begun (read c)
 
 abbrev numbered : tie.After-record-distance → tie.After-number-at
 numbered c = c .before .before
@@ -91,7 +94,7 @@ visit-spec =
     tie.close
     (tie.spec
     (λ c κs. (omega arith, omega arith, search (needs, parent-row)))
-    (λ c κs. omega arith)
+    (λ c κs. omega (arith, begun (c .before) .pre))
     (λ c. search needs)
     (λ c κs. search (needs, record-row))
     (λ c. search needs)

@@ -11,8 +11,8 @@ use Rattle.walk.specs.Walk.{partsOf}
 use Rattle.walk.specs.Turns.{edgeNumberOf, nextOf}
 use Rattle.plan.specs.Plan.{slotsIn}
 use Rattle.stored.specs.Stored.{Floor, recordIn, floorIn}
-use Rattle.going.specs.Going.{walkedOn, Yielded, Turning}
-use Rattle.going.proofs.Rounds.{on-yields, turning}
+use Rattle.going.specs.Going.{walkedOn, Yielded}
+use Rattle.going.proofs.Rounds.{Turning, walked-as-on, on-yields, turning}
 use Rattle.going.proofs.Stepping.{polygon-lies, edge-inside}
 use Rattle.going.proofs.Parts.{fromPart}
 use Rattle.seek.specs.Seek.{isAmong, edgeStands}
@@ -25,14 +25,17 @@ use Rattle.seek.proofs.look_on_edge.Tie as tie
 abbrev start : tie.After-edge → tie.Start
 start c = c .before .before .before .before
 
-abbrev stepped : tie.After-is-over → tie.After-next
-stepped c = c .before .before
+abbrev walking : tie.After-next → tie.After-walk
+walking c = c .before
 
-abbrev walking : tie.After-is-over → tie.After-walk
-walking c = stepped c .before
+abbrev asking : tie.After-walk → tie.After-is-over
+asking c = c .before
 
-abbrev begun : tie.After-is-over → tie.Start
-begun c = start (walking c .before)
+abbrev edged : tie.After-walk → tie.After-edge
+edged c = asking c .before .before
+
+abbrev begun : tie.After-next → tie.Start
+begun c = start (edged (walking c))
 
 -- behind the first part's asking, the second's and the third's
 abbrev first-on : tie.After-is-part → tie.Else2
@@ -45,13 +48,13 @@ abbrev third-on : tie.After-is-part3 → tie.Else6
 third-on c = c .before .before
 
 -- whether the edge is the record's, seen from there
-abbrev asked : tie.Else2 → tie.After-is-over
+abbrev asked : tie.Else2 → tie.After-next
 asked c = c .before .before
 
-abbrev asked-before : tie.Else3 → tie.After-is-over
+abbrev asked-before : tie.Else3 → tie.After-next
 asked-before c = asked (first-on (c .before))
 
-abbrev asked-at-last : tie.Else5 → tie.After-is-over
+abbrev asked-at-last : tie.Else5 → tie.After-next
 asked-at-last c = asked-before (second-on (c .before) .before)
 
 abbrev floor : tie.Start → Floor
@@ -62,32 +65,36 @@ floor s = floorIn (now (s .args .plan)) (now (s .args .vertices)) (now (s .args 
 turns : (s : tie.Start) → Turning (now (s .args .plan)) (now (s .args .polygons)) (s .args .node) (s .args .round)
 turns s = turning _ _ _ (s .args .node) (s .pre .0 .0) (s .args .round) (s .pre .1 .0) (s .pre .1 .1)
 
+-- what the code walks is what the round's edge yields
+walks : (c : tie.After-walk) → let s = start (edged c) in c .walk .result ≡ walkedOn (floor s) (s .args .node) (s .args .round)
+walks c = let s = start (edged c) in walked-as-on (floor s) (s .args .node) (s .args .round) (edged c .edge .ensures) (c .walk .ensures)
+
 yields : (c : tie.After-walk) → Yielded (c .walk .result)
-yields c = let s = start (c .before) in subst Yielded (sym (c .walk .ensures)) (on-yields (floor s) (s .args .node) (s .args .round))
+yields c = let s = start (edged c) in subst Yielded (sym (walks c)) (on-yields (floor s) (s .args .node) (s .args .round))
 
 -- whether the record is among the steps over the edge's parts from the k-th on
-abbrev from : tie.After-is-over → ℕ → Bool
+abbrev from : tie.After-next → ℕ → Bool
 from c k =
     let s = begun c in
-    isAmong (fromPart (floor s) (s .args .node) (walking c .before .edge .result) (walking c .walk .result) k) (now (s .args .route)) (s .args .i)
+    isAmong (fromPart (floor s) (s .args .node) (edged (walking c) .edge .result) (walking c .walk .result) k) (now (s .args .route)) (s .args .i)
 
 named : (c : tie.Else1) → let s = begun (c .before) in
-    edgeStands (recordIn (now (s .args .plan)) (now (s .args .polygons)) (s .args .node .polygon)) (walking (c .before) .before .edge .result)
+    edgeStands (recordIn (now (s .args .plan)) (now (s .args .polygons)) (s .args .node .polygon)) (edged (walking (c .before)) .edge .result)
     (now (s .args .route)) (s .args .i) ≡ true
-named c = sym (c .before .is-over .ensures) ∙ not-false _ (c .if1 .left)
+named c = sym (asking (walking (c .before)) .is-over .ensures) ∙ not-false _ (c .if1 .left)
 
 -- what the contract says of the edge, by what the code has of it
-as-said : (c : tie.After-is-over) → let s = begun c in
+as-said : (c : tie.After-next) → let s = begun c in
     from c 0 ≡ isAmong (fromPart (floor s) (s .args .node) (edgeNumberOf (s .args .round)) (walkedOn (floor s) (s .args .node) (s .args .round)) 0)
     (now (s .args .route)) (s .args .i)
 as-said c =
     let s = begun c in
     ap₂ (λ (e : ℕ) (w : Walked). isAmong (fromPart (floor s) (s .args .node) e w 0) (now (s .args .route)) (s .args .i))
-    (walking c .before .edge .ensures) (walking c .walk .ensures)
+    (edged (walking c) .edge .ensures) (walks (walking c))
 
-next-is : (c : tie.After-is-over) → let s = begun c in
-    stepped c .next .result ≡ nextOf (s .args .round) (walkedOn (floor s) (s .args .node) (s .args .round) .kind)
-next-is c = stepped c .next .ensures ∙ ap (λ w. nextOf (begun c .args .round) (w .kind)) (walking c .walk .ensures)
+next-is : (c : tie.After-next) → let s = begun c in
+    c .next .result ≡ nextOf (s .args .round) (walkedOn (floor s) (s .args .node) (s .args .round) .kind)
+next-is c = c .next .ensures ∙ ap (λ w. nextOf (begun c .args .round) (w .kind)) (walks (walking c))
 
 -- the first part is not it, nor is the second
 one-passed : (c : tie.Else3) → from (asked-before c) 0 ≡ from (asked-before c) 1
@@ -112,11 +119,10 @@ edge-requires c κs = let t = turns (c .before .before .before) in (t .entry-in,
 
 is-over-requires : tie.Need-is-over-requires
 is-over-requires c κs =
-    let at-edge = c .before .before .before in
-    let s = start at-edge in
+    let s = start (c .before) in
     let inside = edge-inside _ _ _ (s .args .node) (s .pre .0 .0) (s .args .round) (s .pre .1 .0) (s .pre .1 .1) in (
       polygon-lies _ _ _ (s .args .node) (s .pre .0 .0),
-      subst (λ (n : ℕ). n < slotsIn (now (s .args .plan))) (sym (at-edge .edge .ensures)) inside,
+      subst (λ (n : ℕ). n < slotsIn (now (s .args .plan))) (sym (c .before .edge .ensures)) inside,
       s .pre .1 .2,
     )
 
@@ -125,7 +131,7 @@ returns c =
     let by = c .before in
     let s = begun by in (
       sym (sym (as-said by) ∙ none-over _ _ _ (s .args .node) (s .pre .0 .0) (now (s .args .route)) (s .args .i)
-          (walking by .before .edge .result) (sym (by .is-over .ensures) ∙ not-true _ (c .if1 .taken)) (partsOf (walking by .walk .result))),
+          (edged (walking by) .edge .result) (sym (asking (walking by) .is-over .ensures) ∙ not-true _ (c .if1 .taken)) (partsOf (walking by .walk .result))),
       next-is by,
     )
 
@@ -209,8 +215,9 @@ is-part-requires-3 c κs =
 pub look-on-edge-spec : {M : Type 1} → statement M
 look-on-edge-spec =
     tie.close
-    (tie.spec edge-requires (λ c κs. (start c .pre .0 .0, turns (start c))) (λ c κs. turns (start (c .before)) .taken-in) (λ c. search needs)
-    is-over-requires
+    (tie.spec edge-requires (λ c. search needs) is-over-requires
+    (λ c κs. let at-edge = c .before .before in (start at-edge .pre .0 .0, rw (at-edge .edge .ensures) (turns (start at-edge) .edge-in)))
+    (λ c κs. turns (start (edged c)) .taken-in)
     returns returns-2 (λ c. omega (arith, yields (walking (asked c)) .three)) is-part-requires returns-3 returns-4
     (λ c. omega (arith, yields (walking (asked-before (c .before))) .three)) is-part-requires-2 returns-5 returns-6
     (λ c. omega (arith, yields (walking (asked-at-last (c .before))) .three)) is-part-requires-3 returns-7)

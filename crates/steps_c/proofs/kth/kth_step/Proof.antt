@@ -11,8 +11,8 @@ use Rattle.walk.specs.Turns.{isOverOf}
 use Rattle.plan.specs.Plan.{slotsIn, isMarked}
 use Rattle.stored.specs.Stored.{recordIn, verticesOf, floorIn}
 use Rattle.view.specs.View.{viewOf}
-use Rattle.going.specs.Going.{Yielded, Turning, Goes}
-use Rattle.going.proofs.Rounds.{edgesLeft, begin-goes, next-goes, turning, fewer-left, on-yields}
+use Rattle.going.specs.Going.{walkedOn, Yielded, Goes}
+use Rattle.going.proofs.Rounds.{Turning, walked-as-on, edgesLeft, begin-goes, next-goes, turning, fewer-left, on-yields}
 use Rattle.going.proofs.Stepping.{polygon-lies, viewed-lies, edge-inside}
 use Rattle.steps_c.proofs.Counting.{none-in-goal, Counted-in, counting-begins, counting-ends, counting-finds, counting-goes-on}
 use Rattle.steps_c.proofs.kth.kth_step.Statement.{statement}
@@ -73,6 +73,13 @@ turns : (c : tie.Then2 Inv-loop μ-loop) → let l = looping (to-is-over c) in l
     Turning (now (s .args .plan)) (now (s .args .polygons)) (s .args .node) (l .loop .round)
 turns c = let l = looping (to-is-over c) in turning _ _ _ (begun l .args .node) (begun l .pre .1) (l .loop .round) (l .loop .inv .1) (goes-on c)
 
+-- what the code walks is what the round's edge yields
+walks : (c : tie.After-walk Inv-loop μ-loop) → let l = looping (to-is-over (to-if2 (to-edge c))) in let s = begun l in
+    c .walk .result ≡ walkedOn (floorIn (now (s .args .plan)) (now (s .args .vertices)) (now (s .args .polygons))) (s .args .node) (l .loop .round)
+walks c =
+    let l = looping (to-is-over (to-if2 (to-edge c))) in
+    walked-as-on _ (begun l .args .node) (l .loop .round) (to-edge c .edge .ensures) (c .walk .ensures)
+
 -- ---- before the loop
 
 returns : tie.Need-returns Inv-loop μ-loop
@@ -103,7 +110,7 @@ edge-requires : tie.Need-edge-requires Inv-loop μ-loop
 edge-requires c κs = (turns c .entry-in, turns c .taken-in)
 
 walk-requires : tie.Need-walk-requires Inv-loop μ-loop
-walk-requires c κs = (begun (looping (to-is-over (to-if2 c))) .pre .1, turns (to-if2 c))
+walk-requires c κs = (begun (looping (to-is-over (to-if2 c))) .pre .1, rw (c .edge .ensures) (turns (to-if2 c) .edge-in))
 
 count-on-edge-requires : tie.Need-count-on-edge-requires Inv-loop μ-loop
 count-on-edge-requires c κs =
@@ -114,7 +121,7 @@ count-on-edge-requires c κs =
       viewed-lies _ _ _ (s .args .node) (s .pre .1) (s .pre .0) _ (l .loop .inv .0),
       subst (λ (n : ℕ). n < slotsIn (now (s .args .plan))) (sym (at-edge .edge .ensures))
           (edge-inside _ _ _ (s .args .node) (s .pre .1) (l .loop .round) (l .loop .inv .1) (goes-on at-if2)),
-      subst Yielded (sym (c .walk .ensures)) (on-yields _ (s .args .node) (l .loop .round)),
+      subst Yielded (sym (walks c)) (on-yields _ (s .args .node) (l .loop .round)),
     )
 
 returns-2 : tie.Need-returns-2 Inv-loop μ-loop
@@ -127,7 +134,7 @@ returns-2 c =
     let l = looping (to-is-over at-if2) in
     let s = begun l in
     sym (counting-finds _ _ _ (s .args .node) (s .pre .1) (s .args .goal) (s .args .k) (l .loop .round) (l .loop .left) (l .loop .inv .2) (s .pre .0)
-    (l .loop .inv .1) (goes-on at-if2) _ (l .loop .inv .0) _ (at-walk .walk .ensures) _ (at-edge .edge .ensures) _
+    (l .loop .inv .1) (goes-on at-if2) _ (l .loop .inv .0) _ (walks at-walk) _ (at-edge .edge .ensures) _
     (at-count .count-on-edge .ensures) _ (at-counted .counted .given .1))
 
 next-requires : tie.Need-next-requires Inv-loop μ-loop
@@ -158,7 +165,7 @@ loop-again c =
       subst (Goes (recordIn (now (s .args .plan)) (now (s .args .polygons)) (s .args .node .polygon)) (s .args .node)) (sym (c .next .ensures))
           (next-goes _ _ _ (s .args .node) (s .pre .1) (l .loop .round) (l .loop .inv .1) on _),
       counting-goes-on _ _ _ (s .args .node) (s .pre .1) (s .args .goal) (s .args .k) (l .loop .round) (l .loop .left) (l .loop .inv .2) (s .pre .0)
-          (l .loop .inv .1) on _ (l .loop .inv .0) _ (at-walk .walk .ensures) _ (at-edge .edge .ensures) _ (at-count .count-on-edge .ensures) _
+          (l .loop .inv .1) on _ (l .loop .inv .0) _ (walks at-walk) _ (at-edge .edge .ensures) _ (at-count .count-on-edge .ensures) _
           (at-counted .counted2 .given .1) _ (c .next .ensures),
     )
 
