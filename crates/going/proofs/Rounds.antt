@@ -5,7 +5,10 @@ use mathlib.Core.Path.{_≡_, refl, sym, _∙_}
 use mathlib.Core.Bool.{Bool, true, false}
 use mathlib.Core.List.{List}
 use borrow.Author.Tests.{leb-false}
+use lib.Dec.{eqb}
 use lib.ListN.{length}
+use Rattle.counts.specs.Counts.{first}
+use Rattle.counts.proofs.Laws.{first-is, first-before, first-at}
 use Rattle.point.specs.declared.Segment.{Segment}
 use Rattle.cut.specs.declared.SuccessorType.{SuccessorType}
 use Rattle.walk.specs.declared.round.Round.{Round}
@@ -13,8 +16,9 @@ use Rattle.walk.specs.declared.Walked.{Walked}
 use Rattle.walk.specs.Walk.{walkEdgeOf, walkedOf, oneOf}
 use Rattle.walk.specs.Turns.{beginOf, isOverOf, edgeNumberOf, nextOf}
 use Rattle.walk.proofs.Laws.{count-is-one-to-three, array-is-of-three, another}
-use Rattle.stored.specs.Stored.{Floor, Polygon, recordIn, floorIn, cornerCount, polygon, edge}
-use Rattle.stored.proofs.Records.{polygon-read}
+use Rattle.plan.specs.Plan.{slotsIn}
+use Rattle.stored.specs.Stored.{Floor, Polygon, recordIn, floorIn, corner, cornerCount, polygon, edge}
+use Rattle.stored.proofs.Records.{polygon-read, count-slots}
 use Rattle.steps.specs.declared.Node.{Node}
 use Rattle.steps.specs.Steps.{placeOf, entryOf}
 use Rattle.going.specs.Going.{wholeOf, walkBy, entryFor, countFor, beginRound, walkedAt, walkedOn, Yielded, Stands, Goes}
@@ -104,16 +108,38 @@ module _ (q : Polygon) (node : Node) where
   unfolding countFor
   count-of-node e = rw e
 
+  -- a corner that is found among the slots is where it is among the corners
+  found-among : node .seed ≡ false → entryFor q node < countFor q node → (s : ℕ) → cornerCount q ≤ s → placeOf q s (node .second) ≡ entryFor q node
+  unfolding placeOf
+  found-among e low s few =
+      let at = entry-of-node e in
+      let found : first (cornerCount q) (λ i. eqb (corner q i) (node .second)) < cornerCount q = rw (at, count-of-node e) at low in
+      first-is s (λ i. eqb (corner q i) (node .second)) (first (cornerCount q) (λ i. eqb (corner q i) (node .second))) (omega (arith, found, few))
+      (first-before (cornerCount q) (λ i. eqb (corner q i) (node .second))) (λ _. first-at (cornerCount q) (λ i. eqb (corner q i) (node .second)) found)
+      ∙ sym at
+
   -- the round that the code begins with, from the corner count that it found
-  module _ (m : ℕ) (found : m ≡ cornerCount q) (round : Round) where
+  module _ {m : ℕ} (found : m ≡ cornerCount q) {round : Round} where
     pub seed-begins : node .seed ≡ true → round ≡ beginOf m (m + 1) → round ≡ beginRound q node
     unfolding beginRound
     seed-begins e r = rw (entry-of-seed e, count-of-seed e, ← found) r
 
-    pub node-begins : node .seed ≡ false → (entry : ℕ) → entry ≡ placeOf q m (node .second) → round ≡ beginOf entry m
-        → round ≡ beginRound q node
+    pub node-begins : node .seed ≡ false → {entry : ℕ} → entry ≡ entryFor q node → round ≡ beginOf entry m → round ≡ beginRound q node
     unfolding beginRound
-    node-begins e entry at r = rw (entry-of-node e, count-of-node e, ← found, ← at) r
+    node-begins e at r = rw (count-of-node e, ← found, ← at) r
+
+-- by the slots that were read off the plan
+module _ (plan ps : List ℕ) (node : Node) where
+  abbrev its : Polygon
+  its = recordIn plan ps (node .polygon)
+
+  module _ (other : node .seed ≡ false) (low : entryFor its node < countFor its node) (s : ℕ) (read : s ≡ slotsIn plan)
+      (entry : ℕ) (at : entry ≡ placeOf its s (node .second)) where
+    pub entry-among : entry ≡ entryFor its node
+    entry-among = at ∙ found-among its node other low s (rw read (count-slots (slotsIn plan) ps (node .polygon)))
+
+    pub entry-counted : entry ≤ cornerCount its
+    entry-counted = omega (arith, entry-among, low, count-of-node its node other)
 
 module _ (plan vs ps : List ℕ) (node : Node) (h : Stands plan vs ps node) where
   abbrev f : Floor

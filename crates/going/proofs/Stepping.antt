@@ -18,8 +18,8 @@ use Rattle.view.specs.declared.View.{View}
 use Rattle.steps.specs.declared.Permitted.{Permitted}
 use Rattle.steps.specs.Steps.{stepOf}
 use Rattle.view.specs.View.{viewOf, stepBy}
-use Rattle.going.specs.Going.{Stands, Goes}
-use Rattle.going.proofs.Rounds.{its-polygon, turning}
+use Rattle.going.specs.Going.{entryFor, countFor, Stands, Goes}
+use Rattle.going.proofs.Rounds.{its-polygon, entry-in-count, turning}
 use Rattle.view.proofs.Seen.{view-by-plan, step-by-view}
 
 module _ (plan vs ps : List ℕ) (node : Node) (h : Stands plan vs ps node) where
@@ -28,6 +28,10 @@ module _ (plan vs ps : List ℕ) (node : Node) (h : Stands plan vs ps node) wher
 
   pub polygon-lies : Lies plan ps (node .polygon)
   polygon-lies = lies (h .listed .polygons-planned) (node .polygon) (h .listed .listed)
+
+  -- what the walk needs to begin
+  pub begins-at : Lies plan ps (node .polygon) × (entryFor (recordIn plan ps (node .polygon)) node < countFor (recordIn plan ps (node .polygon)) node)
+  begins-at = (polygon-lies, entry-in-count plan vs ps node h)
 
   pub edge-inside : (round : Round) → Goes (recordIn plan ps (node .polygon)) node round → isOverOf round ≡ false → edgeNumberOf round < slotsIn plan
   edge-inside round goes on = slot-inside (slotsIn plan) ps (node .polygon) (edgeNumberOf round) (turning plan vs ps node h round goes on .edge-in)

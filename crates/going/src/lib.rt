@@ -6,7 +6,7 @@ ghost use Prim.Native.Nat.{_≤_, _<_};
 ghost use Rattle.plan.specs.Plan.{slotsIn};
 ghost use Rattle.stored.specs.Stored.{recordIn, floorIn, cornerCount, Lies};
 ghost use Rattle.steps.specs.Steps.{placeOf};
-ghost use Rattle.going.specs.Going.{wholeOf, walkBy, walkedAt, beginRound, Stands};
+ghost use Rattle.going.specs.Going.{wholeOf, walkBy, walkedAt, entryFor, countFor, beginRound, Stands};
 use cut::SuccessorType;
 use plan::PLAN;
 use point::Segment;
@@ -74,16 +74,19 @@ pub fn walk(
     walk_by(node, edge, kind)
 }
 
-// The walk begins behind the edge that was entered by, the seed's at the first edge.
+// The walk begins behind the edge that was entered by, the seed's at the first edge. Up to the entry edge every slot is a corner's, so
+// that the corners are counted on from there.
 pub fn begin(polygons: &[u8], plan: &[u32; PLAN], node: Node) -> Round
-    requires { ⌜ Lies (now plan) (now polygons) (node .polygon) ⌝ }
+    requires { let q = recordIn (now plan) (now polygons) (node .polygon) in
+        ⌜ Lies (now plan) (now polygons) (node .polygon) × (entryFor q node < countFor q node) ⌝ }
     ensures { λ r. ⌜ r ≡ beginRound (recordIn (now (plan .entry)) (now (polygons .entry)) (node .polygon)) node ⌝ }
 {
     let p = node.polygon as usize;
-    let n = stored::corner_count(polygons, plan, p);
     if node.seed {
+        let n = stored::corner_count(polygons, plan, p);
         return Round::begin(n, n + 1);
     }
-    let entry = place_of(polygons, plan, p, n, node.second);
+    let entry = place_of(polygons, plan, p, plan::slots(plan), node.second);
+    let n = stored::count_on(polygons, plan, p, entry);
     Round::begin(entry, n)
 }

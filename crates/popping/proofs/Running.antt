@@ -107,78 +107,79 @@ firstOf w = stateOf w (record { taken = 1; records = 1; pops = 0 })
 abbrev pub leavesSeed : Node → Origin
 leavesSeed seed = record { place = 0; depth = 0; number = 0; node = seed }
 
--- what is asked of a search, and its seed
-pub record Begins (plan vs ps : List ℕ) (t : Task) (was : Work) (seed : Node) : Type 0 where
+-- what is asked of a search
+pub record Begins (plan vs ps : List ℕ) (t : Task) (was : Work) : Type 0 where
   pub ground : Ground plan vs ps
   pub room : Room (t .places) was
   pub places : 1 ≤ t .places
   pub listed : t .trip .from < polygonCountIn plan
   pub apart : eqb (t .trip .from) (t .trip .to) ≡ false
   pub self : sameOf (t .trip .start) (t .trip .start) ≡ true
-  pub seeded : seed ≡ seedNode (t .trip .start) (t .trip .from)
 
-module _ {plan vs ps : List ℕ} {t : Task} {was : Work} {seed : Node} (h : Begins plan vs ps t was seed) {w : Work}
-    (grown : w ≡ planted (floorIn plan vs ps) t seed was) where
-  abbrev start : Point
-  start = t .trip .start
-
-  abbrev p : ℕ
-  p = t .trip .from
+module _ {plan vs ps : List ℕ} {t : Task} {was : Work} (h : Begins plan vs ps t was) where
+  abbrev first : Node
+  first = seedNode (t .trip .start) (t .trip .from)
 
   abbrev floor : Floor
   floor = floorIn plan vs ps
 
-  first-is : firstOf w ≡ begun floor t (seedNode start p) was
-  unfolding begun
-  first-is = rw (grown, h .seeded)
+  -- the steps of the planted seed
+  abbrev outset : Making
+  outset = madeAll floor t (begun floor t first was) (seedOrigin floor t first) (stepsFrom floor (t .trip .to) first)
 
-  first-sound : Sound plan vs ps t (seedNode start p) (firstOf w)
-  first-sound = subst (Sound plan vs ps t (seedNode start p)) (sym first-is) (sound-begun plan vs ps t (h .ground) (h .listed) was (h .room) (h .places))
+  module _ {seed : Node} (seeded : seed ≡ first) {w : Work} (grown : w ≡ planted floor t seed was) where
+    first-is : firstOf w ≡ begun floor t first was
+    unfolding begun
+    first-is = rw (grown, seeded)
 
-  pub first-fit : Fit t (firstOf w)
-  first-fit = first-sound .fit
+    first-sound : Sound plan vs ps t first (firstOf w)
+    first-sound = subst (Sound plan vs ps t first) (sym first-is) (sound-begun plan vs ps t (h .ground) (h .listed) was (h .room) (h .places))
 
-  first-on-record : OnRecord (firstOf w) (seedNode start p .root) 0
-  first-on-record =
-      subst (λ (x : State). OnRecord x (seedNode start p .root) 0) (sym first-is)
-      (on-first plan vs ps t (h .ground) (h .listed) was (h .room) (h .places) (h .self))
+    pub first-fit : Fit t (firstOf w)
+    first-fit = first-sound .fit
 
-  pub first-leaves : Leaves plan vs ps (firstOf w) (leavesSeed seed)
-  unfolding seedNode
-  first-leaves = rw (h .seeded) (record {
-    stands = seed-stands plan vs ps (h .ground) start p (h .listed);
-    leaving = record { on-record = first-on-record; place-few = omega arith; depth-few = omega arith; points-few = omega arith };
-  })
+    first-on-record : OnRecord (firstOf w) (first .root) 0
+    first-on-record =
+        subst (λ (x : State). OnRecord x (first .root) 0) (sym first-is)
+        (on-first plan vs ps t (h .ground) (h .listed) was (h .room) (h .places) (h .self))
 
-  pub first-apart : eqb (seed .polygon) (t .trip .to) ≡ false
-  unfolding seedNode
-  first-apart = rw (h .seeded) (h .apart)
+    pub first-leaves : Leaves plan vs ps (firstOf w) (leavesSeed seed)
+    unfolding seedNode
+    first-leaves = rw seeded (record {
+      stands = seed-stands plan vs ps (h .ground) (t .trip .start) (t .trip .from) (h .listed);
+      leaving = record { on-record = first-on-record; place-few = omega arith; depth-few = omega arith; points-few = omega arith };
+    })
 
-  module _ {m : Making} (made : m ≡ madeAll floor t (firstOf w) (leavesSeed seed) (stepsFrom floor (t .trip .to) seed)) where
-    made-is : m ≡ madeAll floor t (begun floor t (seedNode start p) was) (seedOrigin floor t (seedNode start p))
-        (stepsFrom floor (t .trip .to) (seedNode start p))
+    pub first-apart : eqb (seed .polygon) (t .trip .to) ≡ false
+    unfolding seedNode
+    first-apart = rw seeded (h .apart)
+
+    pub first-made : {m : Making} → m ≡ madeAll floor t (firstOf w) (leavesSeed seed) (stepsFrom floor (t .trip .to) seed) → m ≡ outset
     unfolding seedOrigin
-    made-is = made ∙ rw (first-is, h .seeded)
+    first-made made = made ∙ rw (first-is, seeded)
 
+  module _ {m : Making} (made : m ≡ outset) where
     pub made-sound : SoundFrom plan vs ps t (m .state)
     made-sound = record {
-      seed = seedNode start p;
+      seed = first;
       sound =
-          subst (λ (x : Making). Sound plan vs ps t (seedNode start p) (x .state)) (sym made-is)
+          subst (λ (x : Making). Sound plan vs ps t first (x .state)) (sym made)
           (sound-seeded plan vs ps t (h .ground) (h .listed) was (h .room) (h .places));
       numbered =
-          subst (λ (x : Making). Numbered (x .state)) (sym made-is)
+          subst (λ (x : Making). Numbered (x .state)) (sym made)
           (numbered-seeded plan vs ps t (h .ground) (h .listed) was (h .room) (h .places) (h .self));
     }
 
     pub made-uncounted : m .state .counts .pops ≡ 0
+    unfolding begun
     made-uncounted =
-        ap (λ (x : Making). x .state .counts .pops) made ∙ pops-made-all floor t (stepsFrom floor (t .trip .to) seed) (firstOf w) (leavesSeed seed)
+        ap (λ (x : Making). x .state .counts .pops) made
+        ∙ pops-made-all floor t (stepsFrom floor (t .trip .to) first) (begun floor t first was) (seedOrigin floor t first)
 
     pub searches-full : (budget : ℕ) → m .full ≡ true → ending (m .state) Filled ≡ searchedFrom floor t budget was
     unfolding searchedFrom
-    searches-full budget e = rw (← made-is, e)
+    searches-full budget e = rw (← made, e)
 
     pub searches-on : (budget : ℕ) → m .full ≡ false → {e : Ending} → e ≡ run floor t budget (m .state) → e ≡ searchedFrom floor t budget was
     unfolding searchedFrom
-    searches-on budget full e = e ∙ rw (← made-is, full)
+    searches-on budget full e = e ∙ rw (← made, full)

@@ -11,11 +11,13 @@ ghost use Rattle.plan.specs.Plan.{polygonCountIn};
 ghost use Rattle.stored.specs.Stored.{Floor, floorIn};
 ghost use Rattle.edges.specs.Ground.{Ground};
 ghost use Rattle.places.specs.Layout.{workOf, Room};
-ghost use Rattle.machine.specs.Search.{stateOf, stepping, ending, visited, step, run, planted, searchedFrom};
+ghost use Rattle.steps.specs.Steps.{seedNode, stepsFrom};
+ghost use Rattle.machine.specs.Search.{stateOf, making, stepping, ending, visited, step, run, planted, begun, seedOrigin, madeAll, searchedFrom};
 ghost use Rattle.machine.specs.Sound.{SoundFrom};
 use machine::Counts;
 use machine::Ended;
 use machine::Finish;
+use machine::Made;
 use machine::Origin;
 use machine::Outcome;
 use machine::Stepped;
@@ -204,6 +206,55 @@ fn plant(task: Task, seed: Node, floats: &mut [f32], words: &mut [u32], tree: &m
     put_record(floats, 0, seed.root, 0.0);
 }
 
+// Plants the seed and makes its steps. It stands in a function of its own, since what it holds is done with when the search goes on, and
+// its room is free.
+fn set_out(
+    vertices: &[u8],
+    polygons: &[u8],
+    plan: &[u32; PLAN],
+    task: Task,
+    floats: &mut [f32],
+    words: &mut [u32],
+    tree: &mut [u32],
+) -> Made
+    requires { ⌜ Ground (now plan) (now vertices) (now polygons) ⌝ }
+    requires { ⌜ Room (task .places) (workOf (now floats) (now words) (now tree)) × (1 ≤ task .places) ⌝ }
+    requires { let trip = task .trip in
+        ⌜ (trip .from < polygonCountIn (now plan)) × (eqb (trip .from) (trip .to) ≡ false) × (sameOf (trip .start) (trip .start) ≡ true) ⌝ }
+    ensures { λ r.
+        let f = floorIn (now (plan .entry)) (now (vertices .entry)) (now (polygons .entry)) in
+        let before = workOf (now (floats .entry)) (now (words .entry)) (now (tree .entry)) in
+        let after = stateOf (workOf (now (floats .exit)) (now (words .exit)) (now (tree .exit))) (r .counts) in
+        let seed = seedNode (task .trip .start) (task .trip .from) in
+        ⌜ making after (r .full) ≡ madeAll f task (begun f task seed before) (seedOrigin f task seed) (stepsFrom f (task .trip .to) seed) ⌝ }
+{
+    let trip = task.trip;
+    let seed = Node::seed(trip.start, trip.from);
+    plant(task, seed, floats, words, tree);
+    let counts = Counts {
+        taken: 1,
+        records: 1,
+        pops: 0,
+    };
+    let from = Origin {
+        place: 0,
+        depth: 0,
+        number: 0,
+        node: seed,
+    };
+    make_steps(
+        vertices,
+        polygons,
+        plan,
+        task,
+        counts,
+        from,
+        floats,
+        words,
+        tree,
+    )
+}
+
 // Searches from the trip's start, whose polygon is not the goal's.
 pub fn search_from(
     vertices: &[u8],
@@ -225,31 +276,7 @@ pub fn search_from(
         let after = stateOf (workOf (now (floats .exit)) (now (words .exit)) (now (tree .exit))) (r .counts) in
         ⌜ ending after (r .finish) ≡ searchedFrom f task budget before ⌝ }
 {
-    let trip = task.trip;
-    let seed = Node::seed(trip.start, trip.from);
-    plant(task, seed, floats, words, tree);
-    let counts = Counts {
-        taken: 1,
-        records: 1,
-        pops: 0,
-    };
-    let from = Origin {
-        place: 0,
-        depth: 0,
-        number: 0,
-        node: seed,
-    };
-    let made = make_steps(
-        vertices,
-        polygons,
-        plan,
-        task,
-        counts,
-        from,
-        floats,
-        words,
-        tree,
-    );
+    let made = set_out(vertices, polygons, plan, task, floats, words, tree);
     let counts = made.counts;
     if made.full {
         return Ended {

@@ -105,6 +105,9 @@ pub upto-none : {plan bytes : List ℕ} {p slots : ℕ} → slots ≡ slotsIn pl
 upto-none e = record { all = e; low = omega arith }
 
 module _ {plan bytes : List ℕ} {p slots i : ℕ} (h : Upto plan bytes p slots i) where
+  pub within-slots : i ≤ slotsIn plan
+  within-slots = let few = count-slots (slotsIn plan) bytes p in omega (arith, few, h .low)
+
   -- the slots are all
   pub ends-with-slots : slots ≤ i → cornerCount (recordIn plan bytes p) ≡ i
   ends-with-slots l = let few = count-slots (slotsIn plan) bytes p in omega (arith, few, l, h .all, h .low)

@@ -54,13 +54,13 @@ pub fn neighbour(polygons: &[u8], plan: &[u32; PLAN], p: usize, i: usize) -> u32
     slot(polygons, plan, p, plan::slots(plan) + i)
 }
 
-// How many corners a polygon has: those before the first unused slot.
-pub fn corner_count(polygons: &[u8], plan: &[u32; PLAN], p: usize) -> usize
-    requires { ⌜ Lies (now plan) (now polygons) p ⌝ }
+// How many corners a polygon has, counted on from the first so many, which are known to be some.
+pub fn count_on(polygons: &[u8], plan: &[u32; PLAN], p: usize, known: usize) -> usize
+    requires { ⌜ Lies (now plan) (now polygons) p × (known ≤ cornerCount (recordIn (now plan) (now polygons) p)) ⌝ }
     ensures { λ r. ⌜ (r ≡ cornerCount (recordIn (now (plan .entry)) (now (polygons .entry)) p)) × (r ≤ slotsIn (now (plan .entry))) ⌝ }
 {
     let slots = plan::slots(plan);
-    let mut i = 0;
+    let mut i = known;
     while i < slots {
         if corner(polygons, plan, p, i) == UNUSED {
             return i;
@@ -68,6 +68,14 @@ pub fn corner_count(polygons: &[u8], plan: &[u32; PLAN], p: usize) -> usize
         i += 1;
     }
     i
+}
+
+// How many corners a polygon has: those before the first unused slot.
+pub fn corner_count(polygons: &[u8], plan: &[u32; PLAN], p: usize) -> usize
+    requires { ⌜ Lies (now plan) (now polygons) p ⌝ }
+    ensures { λ r. ⌜ (r ≡ cornerCount (recordIn (now (plan .entry)) (now (polygons .entry)) p)) × (r ≤ slotsIn (now (plan .entry))) ⌝ }
+{
+    count_on(polygons, plan, p, 0)
 }
 
 // The corner behind corner i, and the first one behind the last.

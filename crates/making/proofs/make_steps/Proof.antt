@@ -6,7 +6,7 @@ use mathlib.Core.Bool.{false}
 use borrow.Author.Tests.{not-true}
 use Rattle.walk.specs.Turns.{isOverOf}
 use Rattle.going.proofs.Rounds.{edgesLeft}
-use Rattle.going.proofs.Stepping.{polygon-lies}
+use Rattle.going.proofs.Stepping.{begins-at}
 use Rattle.places.specs.Layout.{workOf}
 use Rattle.machine.specs.Search.{stateOf}
 use Rattle.making.proofs.Looping.{Loops, leaves-on, loops-begin, loops-over, loops-full, loops-next, loops-less}
@@ -84,7 +84,7 @@ make-steps-spec =
     Inv-loop
     μ-loop
     (λ c κs. search needs)
-    (λ c κs. search (needs, polygon-lies))
+    (λ c κs. search (needs, begins-at))
     (λ c. search (needs, loops-begin))
     (λ c κs. c .loop .inv .goes .taken-in)
     make-edge-requires

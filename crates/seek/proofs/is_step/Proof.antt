@@ -5,7 +5,7 @@ use mathlib.Core.Bool.{false}
 use borrow.Author.Tests.{not-true, not-false}
 use Rattle.walk.specs.Turns.{isOverOf}
 use Rattle.going.proofs.Rounds.{edgesLeft}
-use Rattle.going.proofs.Stepping.{polygon-lies}
+use Rattle.going.proofs.Stepping.{begins-at}
 use Rattle.seek.proofs.Seeking.{none-in-goal, Sought, seeking-begins, seeking-ends, edge-found, edge-passed, edge-fewer}
 use Rattle.seek.proofs.is_step.Statement.{statement}
 use Rattle.seek.proofs.is_step.Tie as tie
@@ -58,7 +58,7 @@ returns c =
     sym (none-in-goal _ (s .args .goal) (s .args .node) (now (s .args .route)) (s .args .i) (c .if1 .taken))
 
 begin-requires : tie.Need-begin-requires Inv-loop μ-loop
-begin-requires c κs = polygon-lies _ _ _ (other c .args .node) (other c .pre .0 .0)
+begin-requires c κs = begins-at _ _ _ (other c .args .node) (other c .pre .0 .0)
 
 loop-holds : tie.Need-loop-holds Inv-loop μ-loop
 loop-holds c =

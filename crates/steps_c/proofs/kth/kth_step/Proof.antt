@@ -13,7 +13,7 @@ use Rattle.stored.specs.Stored.{recordIn, verticesOf, floorIn}
 use Rattle.view.specs.View.{viewOf}
 use Rattle.going.specs.Going.{walkedOn, Yielded, Goes}
 use Rattle.going.proofs.Rounds.{Turning, walked-as-on, edgesLeft, begin-goes, next-goes, turning, fewer-left, on-yields}
-use Rattle.going.proofs.Stepping.{polygon-lies, viewed-lies, edge-inside}
+use Rattle.going.proofs.Stepping.{begins-at, viewed-lies, edge-inside}
 use Rattle.steps_c.proofs.Counting.{none-in-goal, Counted-in, counting-begins, counting-ends, counting-finds, counting-goes-on}
 use Rattle.steps_c.proofs.kth.kth_step.Statement.{statement}
 use Rattle.steps_c.proofs.kth.kth_step.Tie as tie
@@ -89,7 +89,7 @@ new-requires : tie.Need-new-requires Inv-loop μ-loop
 new-requires c κs = let s = start (to-struct-known c) in (s .pre .0 .vertices-planned, s .pre .1 .first-listed, s .pre .1 .second-listed)
 
 begin-requires : tie.Need-begin-requires Inv-loop μ-loop
-begin-requires c κs = let s = start (to-struct-known (to-if1 c)) in polygon-lies _ _ _ (s .args .node) (s .pre .1)
+begin-requires c κs = let s = start (to-struct-known (to-if1 c)) in begins-at _ _ _ (s .args .node) (s .pre .1)
 
 loop-holds : tie.Need-loop-holds Inv-loop μ-loop
 loop-holds c =
