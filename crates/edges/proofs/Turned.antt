@@ -12,7 +12,7 @@ use Rattle.counts.specs.Counts.{some}
 use Rattle.plan.specs.Plan.{slotsIn, vertexCountIn, polygonCountIn, isMarked, marked, laid}
 use Rattle.plan.proofs.Laws.{laid-slots, laid-vertices, laid-polygons, laid-length, laid-unmarked, marked-slots, marked-vertices, marked-polygons}
 use Rattle.plan.proofs.Laws.{marked-length, marked-at}
-use Rattle.stored.specs.Stored.{Polygon, unused, corner, neighbour, cornerCount, cornerAfter, polygonIn, polygonsOf, floorOf, floorIn, VerticesPlanned}
+use Rattle.stored.specs.Stored.{Polygon, unused, corner, neighbour, cornerCount, cornerAfter, polygonIn, polygonsOf, floorOf}
 use Rattle.stored.specs.Stored.{PolygonsPlanned}
 use Rattle.faults.specs.Accepted.{Accepted}
 use Rattle.edges.specs.Where.{turnsAt, isTurn, markEdge, markEdges, markPolygons, turnsMarked, planOf}

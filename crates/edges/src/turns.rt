@@ -2,11 +2,10 @@
 
 ghost use mathlib.Core.Path.{_≡_};
 ghost use Prim.Native.Nat.{ℕ, _≤_, _<_};
-ghost use lib.ListN.{length};
 ghost use Rattle.plan.specs.Plan.{mostVertices, vertexCountIn, polygonCountIn};
 ghost use Rattle.stored.specs.Stored.{recordIn, polygonsIn, cornerCount, Lies, PolygonsPlanned};
 ghost use Rattle.faults.specs.Accepted.{Corners};
-ghost use Rattle.edges.specs.Where.{markEdge, markEdges, markPolygons, turnsMarked};
+ghost use Rattle.edges.specs.Where.{markEdge, markEdges, turnsMarked};
 use plan::PLAN;
 use plan::mark;
 use stored::UNUSED;

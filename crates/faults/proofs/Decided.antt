@@ -1,17 +1,16 @@
 -- The tests decide what document 01 says of a vertex, of a polygon's corners and of its links, both ways. Assumes nothing.
 use Prim.Native.Nat.{ℕ, _+_, _-_, _/_, _%_, _≤_, _<_}
 use native.Mathlib.Omega.{arith}
-use mathlib.Core.Path.{_≡_, refl, sym, ap, _∙_, subst}
+use mathlib.Core.Path.{_≡_, refl, ap, subst}
 use mathlib.Core.Bool.{Bool, true, false, not, _&&_, _||_}
 use mathlib.Core.List.{List}
 use mathlib.Core.Logic.{_↔_, _⊎_, inl, inr, ⊎-elim}
-use borrow.Author.Tests.{leb-true, le-leb, eqb-true, eqb-false, eq-eqb, ne-eqb, ltb-true, lt-ltb, not-true, not-false}
-use lib.Dec.{T, leb, eqb, ltb}
-use lib.ListN.{length, getD}
-use Rattle.counts.specs.Counts.{every, some}
+use borrow.Author.Tests.{leb-true, le-leb, eqb-true, eqb-false, eq-eqb, ne-eqb, ltb-true, lt-ltb, not-true}
+use lib.Dec.{eqb, ltb}
+use lib.ListN.{length}
 use Rattle.counts.proofs.Laws.{some-at, some-true}
 use Rattle.counts.proofs.Decides.{every-decides}
-use Rattle.float.proofs.Tests.{and-true, or-true, untrue}
+use Rattle.float.proofs.Tests.{and-true, or-true}
 use Rattle.point.specs.declared.Point.{Point}
 use Rattle.stored.specs.Stored.{Floor, Polygon, unused, corner, neighbour, cornerCount, cornerAfter, polygon, isListed}
 use Rattle.faults.specs.Tests.{lengthRight, coordinateRight, pointRight, restUnused, unlikeEarlier, distinct, cornersListed, cornersRight}

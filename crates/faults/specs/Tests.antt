@@ -1,6 +1,6 @@
 -- Document 01, "Numbers that come back": the tests 2 to 7, each of one list, one record or the question. A test is true where there is nothing to refuse.
 -- Accepted says in 01's words what they decide. Assumes nothing.
-use Prim.Native.Nat.{ℕ, _+_, _-_, _*_, _/_, _%_}
+use Prim.Native.Nat.{ℕ, _+_, _-_, _/_, _%_}
 use mathlib.Core.Bool.{Bool, not, _&&_, _||_}
 use mathlib.Core.List.{List}
 use lib.Dec.{leb, ltb, eqb}

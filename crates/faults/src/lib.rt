@@ -2,9 +2,8 @@
 // which asks `point_right` of start and goal.
 
 ghost use mathlib.Core.Path.{_≡_};
-ghost use Prim.Native.Nat.{_+_, _*_, _/_, _≤_, _<_};
+ghost use Prim.Native.Nat.{_+_, _/_, _≤_, _<_};
 ghost use lib.Dec.{eqb, ltb};
-ghost use lib.ListN.{length};
 ghost use Rattle.plan.specs.Plan.{slotsIn, vertexCountIn, polygonCountIn};
 ghost use Rattle.stored.specs.Stored.{unused, slotIn, recordIn, polygonIn, polygonsIn, cornerCount, Lies, PolygonsPlanned};
 ghost use Rattle.faults.specs.Tests.{lengthRight, coordinateRight, pointRight, restUnused, unlikeEarlier, distinct, cornersListed, cornersRight};

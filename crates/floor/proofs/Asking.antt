@@ -1,4 +1,5 @@
--- What is known where a floor that was accepted is asked a question and finds start and goal inside: whatever searches, judges or reads out leans on it. Assumes nothing.
+-- What is known where a floor that was accepted is asked a question and finds start and goal inside: whatever searches, judges or reads out leans on it.
+-- Assumes nothing.
 use Prim.Native.Nat.{ℕ, _≤_, _<_}
 use native.Mathlib.Omega.{arith}
 use mathlib.Core.Path.{_≡_, refl, sym, subst}

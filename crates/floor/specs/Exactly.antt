@@ -1,7 +1,7 @@
 -- Document 01, "Numbers that come back": the case of each answer to a floor and a question, in its words. "Each number is given exactly in its case" is
 -- proved in proofs/Exact. "Tests .. run in table order, each over all records before the next": in each case all that is tested earlier is right.
 -- Assumes nothing.
-use Prim.Native.Nat.{ℕ, _*_, _/_, _%_, _≤_, _<_}
+use Prim.Native.Nat.{ℕ, _/_, _%_, _≤_, _<_}
 use mathlib.Core.Path.{_≡_}
 use mathlib.Core.List.{List}
 use lib.ListN.{length, getD}
@@ -9,7 +9,6 @@ use Rattle.counts.specs.Counts.{Lowest, Least}
 use Rattle.point.specs.declared.Point.{Point}
 use Rattle.point.specs.declared.EdgeSide.the-variants.{Right}
 use Rattle.point.specs.Sides.{sideOf}
-use Rattle.floor.specs.declared.Refusal.{Refusal}
 use Rattle.floor.specs.declared.Refusal.the-variants.{VertexLength, PolygonLength, Vertex, Corners as CornersFault, Links as LinksFault}
 use Rattle.floor.specs.declared.Refusal.the-variants.{Question, StartOutside, GoalOutside}
 use Rattle.floor.specs.declared.FloorLook.{FloorLook}

@@ -3,7 +3,7 @@
 
 ghost use mathlib.Core.Path.{_≡_};
 ghost use Prim.Native.Nat.{ℕ, _/_, _≤_, _<_};
-ghost use lib.ListN.{length, getD};
+ghost use lib.ListN.{getD};
 ghost use Rattle.plan.specs.Plan.{mostVertices, vertexCountIn, polygonCountIn};
 ghost use Rattle.stored.specs.Stored.{vertexCount, origin, verticesOf, recordIn, polygonsIn, floorIn, VerticesPlanned, PolygonsPlanned};
 ghost use Rattle.faults.specs.Tests.{pointRight, questionRight};

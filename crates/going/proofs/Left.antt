@@ -28,7 +28,7 @@ use Rattle.steps.specs.declared.Permitted.{Permitted}
 use Rattle.steps.specs.declared.Permitted.the-variants.{Yes, No}
 use Rattle.route.specs.declared.Step.{Step}
 use Rattle.steps.specs.Steps.{wholeEdge, wholeEdges, entryOf, successorsIn, candidates, stepOf, andThen, stepsOver}
-use Rattle.going.specs.Going.{wholeOf, walkBy, entryFor, countFor, beginRound, walkedAt, walkedOn, partsOver, leftIn, Yielded, Stands, Goes}
+use Rattle.going.specs.Going.{wholeOf, entryFor, countFor, beginRound, walkedAt, walkedOn, partsOver, leftIn, Yielded, Stands, Goes}
 use Rattle.going.proofs.Corners.{edge-in-list, as-many-corners, from, table-is-from}
 use Rattle.going.proofs.Rounds.{by-seed, walk-of-seed, walk-of-node, its-polygon, entry-of-seed, entry-of-node, count-of-seed, count-of-node}
 use Rattle.going.proofs.Rounds.{more-than-taken}

@@ -126,7 +126,8 @@ module _ {f : Floor} {t : Task} {o : Origin} {was at : State} {edge : ℕ} {walk
   pub parts-over : walked .count ≤ k → {is : ℕ} → edge ≡ is → {w : Walked} → walked ≡ w
       → making at false ≡ madeAll f t was o (onEdge f o is w)
   parts-over l e y =
-      yet-none f t o was (onEdge f o edge walked) at (yet-same f t o was (onEdge f o edge walked) at (from-none f (o .node) edge walked (h .yielded) k l) (h .yet)) ∙ on-edge-as e y
+      let all = onEdge f o edge walked in
+      yet-none f t o was all at (yet-same f t o was all at (from-none f (o .node) edge walked (h .yielded) k l) (h .yet)) ∙ on-edge-as e y
 
   in-front : (p : Permitted) (rest : List Step) → andThen p rest ≡ andThen p [] ++ rest
   in-front (Yes step) rest = refl

@@ -9,7 +9,7 @@ use mathlib.Core.List.{List}
 use borrow.Author.Tests.{eqb-true, eqb-false}
 use lib.Bits.{bitOr, or-shr, or-step, shifted-even}
 use lib.Dec.{eqb}
-use lib.ListN.{length, getD, set, length-set, replicate, length-replicate, getD-replicate}
+use lib.ListN.{length, getD, set, length-set, replicate, getD-replicate}
 use lib.Pow.{pow-add, pow-lt, shl-shr}
 use lib.Seq.{getD-set-same, getD-set-other}
 use Rattle.plan.specs.Plan.{planWords, slotsIn, vertexCountIn, polygonCountIn, isMarked, marked, laid}

@@ -7,7 +7,6 @@ use mathlib.Core.List.{List}
 use borrow.Author.Tests.{eq-eqb, ne-eqb}
 use lib.Dec.{eqb}
 use lib.Ieee.{Float}
-use Rattle.point.specs.declared.Point.{Point}
 use Rattle.point.specs.Point.{sameOf}
 use Rattle.plan.specs.Plan.{polygonCountIn}
 use Rattle.stored.specs.Stored.{Floor, floorIn}

@@ -1,12 +1,12 @@
 -- `rootOf` is the square root of document 01, on every f32, and nothing else is: the law that joins what callers cite with what readers believe.
 -- Assumes nothing.
 use Prim.Native.Nat.{ℕ, zero, suc, _+_, _-_, _*_, _/_, _^_, _≤_, _<_}
-use native.Mathlib.Nat.{mul-assoc, mul-right-comm, lt-of-lt-of-le, le-of-lt, zero-lt-suc, mul-pos, mul-lt-mul-of-pos-right, mul-le-mul-right}
+use native.Mathlib.Nat.{lt-of-lt-of-le, le-of-lt, zero-lt-suc, mul-pos, mul-lt-mul-of-pos-right, mul-le-mul-right}
 use native.Mathlib.Omega.{arith}
 use mathlib.Core.Path.{_≡_, refl, sym, ap, _∙_, subst}
-use mathlib.Core.Bool.{Bool, true, false, not, cond}
+use mathlib.Core.Bool.{true, false, not}
 use borrow.Author.Tests.{lt-ltb}
-use lib.Dec.{T, eqb, eqb·suc-zero, lit≤}
+use lib.Dec.{T, eqb·suc-zero}
 use lib.IntN.{ℤ}
 use lib.Count.{leadingZeros}
 use lib.Pow.{pow-add, pow-pos, pow-mono}
@@ -17,7 +17,7 @@ use Rattle.float.proofs.Units.{units-shape, units-tell, units-below, units-odd,
 use Rattle.root.specs.Root.{counts, squareUnits, Nearest, IsRoot, nearestRoot, dropped, roundedRoot, rootOf}
 use Rattle.root.specs.Scale.{Scale, Close, droppedBy, left}
 use Rattle.root.proofs.Whole.{nearest-root}
-use Rattle.root.proofs.Digits.{pow-between, Brought, brought, square-places, left-whole, left-low, left-high, root-scaled}
+use Rattle.root.proofs.Digits.{pow-between, brought, square-places, left-whole, left-low, left-high, root-scaled}
 use Rattle.root.proofs.Midpoints.{root-ends, midpoint-above, midpoint-below}
 
 -- ---- numbers that count

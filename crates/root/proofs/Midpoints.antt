@@ -1,11 +1,11 @@
 -- The midpoints of q * 2 ^ k and any other number of at most 24 digits, squared, lie on that number's side of N * 4 ^ k, if q is nearest to N's root and
 -- has 24 digits. Whole numbers only. Assumes nothing.
-use Prim.Native.Nat.{ℕ, zero, suc, _+_, _-_, _*_, _/_, _%_, _^_, _≤_, _<_}
+use Prim.Native.Nat.{ℕ, zero, suc, _+_, _-_, _*_, _^_, _≤_, _<_}
 use native.Mathlib.Nat.{le-trans, lt-of-lt-of-le, lt-of-le-of-lt, lt-of-not-le, le-of-lt, lt-irrefl, mul-lt-mul-of-pos-right, mul-le-mul-right}
 use native.Mathlib.Nat.{mul-le-mul, mul-pos, mul-assoc, lt-of-mul-lt-mul-right}
 use native.Mathlib.Decide.{decLe}
 use native.Mathlib.Omega.{arith}
-use mathlib.Core.Path.{_≡_, refl, sym, ap, _∙_, subst}
+use mathlib.Core.Path.{_≡_, sym, ap, _∙_, subst}
 use mathlib.Core.Logic.{_⊎_, inl, inr, ⊎-elim}
 use lib.Pow.{pow-add, pow-pos, pow-mono}
 use Rattle.root.specs.Scale.{Close}

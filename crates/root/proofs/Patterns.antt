@@ -6,14 +6,14 @@ use native.Mathlib.Omega.{arith}
 use mathlib.Core.Path.{_≡_, refl, sym, ap, _∙_, subst}
 use mathlib.Core.Bool.{Bool, true, false, cond}
 use borrow.Author.Tests.{ne-eqb, le-leb}
-use lib.Dec.{T, eqb, eqb·suc-zero, lit≤}
+use lib.Dec.{eqb, eqb·suc-zero, lit≤}
 use lib.IntN.{ℤ}
 use lib.Pow.{pow-add, pow-pos, pow-mono}
 use lib.Count.{leadingZeros}
 use lib.Ieee.{Float, nan, inf, fin, binary32, up, down, ofBits, ofFields, odd}
 use Rattle.float.specs.Units.{unitsOf}
 use Rattle.float.proofs.Units.{units-of-equal, units-odd, odd-is-fin, units-of-low-pattern, units-of-high-pattern, no-sign, pattern-is-finite}
-use Rattle.root.specs.Root.{squareUnits, nearestRoot, roundedRoot, rootOf}
+use Rattle.root.specs.Root.{squareUnits, roundedRoot, rootOf}
 use Rattle.root.specs.Scale.{Scale, Close, droppedBy, left}
 use Rattle.root.proofs.Whole.{is-nearest-root}
 use Rattle.root.proofs.Digits.{brought, square-places, left-low, left-high, root-scaled}

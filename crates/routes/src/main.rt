@@ -174,7 +174,7 @@ fn try_with(
     judge_found(told, vertices, polygons, question, out);
 }
 
-// Room for 4,096 nodes: 11 floats, 7 words and 2 words of the queue each.
+// Room for 4,096 nodes: 11 floats, 8 words and 2 words of the queue each.
 fn room_for_floats() -> [f32; 45056]
     ensures { λ r. ⌜ 45056 ≡ length r ⌝ }
 {

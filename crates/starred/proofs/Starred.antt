@@ -1,6 +1,6 @@
 -- Every starred example of document 01 comes out: antt computes each. Assumes nothing.
 use mathlib.Core.Path.{refl}
-use lib.Ieee.{add, sub, mul, div, neg, lt, le, eq, ofBits, toBits, odd, size, round}
+use lib.Ieee.{add, sub, mul, div, neg, lt, le, eq, ofBits, toBits, odd, size}
 use Rattle.float.specs.Units.{unitsOf}
 use Rattle.root.specs.Root.{rootOf, roundedRoot, dropped, nearestRoot, wholeRoot}
 use Rattle.point.specs.Point.{pointOf, fromBitsOf, minusOf, plusOf, timesOf, sameOf, endsAtOf, dotOf, perpDotOf, lengthOf, distanceOf, projectOntoOf}

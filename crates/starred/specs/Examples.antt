@@ -11,13 +11,13 @@ use Rattle.point.specs.declared.EdgeSide.the-variants.{Left, Right, Edge}
 use Rattle.helpers.specs.declared.Crossing.{Crossing}
 use Rattle.helpers.specs.declared.Crossing.the-variants.{At, Nowhere}
 use Rattle.helpers.specs.declared.Turn.{Turn}
-use Rattle.helpers.specs.declared.Turn.the-variants.{Around, Straight}
+use Rattle.helpers.specs.declared.Turn.the-variants.{Around}
 use Rattle.point.specs.Numbers.{0', half, 1', 2', 3', 4', -1', -3'}
 use Rattle.point.specs.Point.{fromBitsOf}
 use Rattle.point.specs.Sides.{sideOf}
 use Rattle.helpers.specs.Helpers.{intersectionTimeOf, lineIntersectSegmentOf, heuristicOf, turningPointOf}
 use Rattle.cone.specs.declared.Clipped.{Clipped}
-use Rattle.cone.specs.declared.Clipped.the-variants.{Seen, Nothing}
+use Rattle.cone.specs.declared.Clipped.the-variants.{Nothing}
 use Rattle.cone.specs.Cone.{clipToConeOf}
 use Rattle.root.specs.Root.{rootOf}
 

@@ -12,7 +12,7 @@ use Rattle.word.proofs.Laws.{word-below}
 use Rattle.counts.specs.Counts.{table}
 use Rattle.counts.proofs.Laws.{getD-table, length-table}
 use Rattle.walk.specs.declared.Successor.{Successor}
-use Rattle.stored.specs.Stored.{polygonIn, Floor, Polygon, Question, unused, slotAt, polygonAt, polygonsOf, floorOf, corner, neighbour, cornerAfter, polygon}
+use Rattle.stored.specs.Stored.{polygonIn, Floor, Polygon, unused, slotAt, polygonAt, polygonsOf, floorOf, corner, neighbour, cornerAfter, polygon}
 use Rattle.route.specs.declared.Step.{Step}
 use Rattle.route.specs.Step.{Held}
 use Rattle.route.specs.World.{Lawful, _∈_}

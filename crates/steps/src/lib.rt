@@ -1,7 +1,7 @@
 // The permitted steps out of a node, in the walk's order, for the search and the judge alike.
 
 ghost use mathlib.Core.Path.{_≡_};
-ghost use Prim.Native.Nat.{_+_, _*_, _/_, _≤_, _<_, _^_};
+ghost use Prim.Native.Nat.{_+_, _/_, _<_, _^_};
 ghost use lib.ListN.{length};
 ghost use Rattle.stored.specs.Stored.{vertexCount, verticesOf, questionOf};
 ghost use Rattle.steps.specs.Steps.{seedNode, rootAfter, enter};

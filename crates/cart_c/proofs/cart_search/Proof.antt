@@ -1,6 +1,6 @@
 -- `cart_c::cart_search` meets its contract: it is made of what its callees ensure. Assumes nothing.
 use Prim.Native.Nat.{ℕ}
-use mathlib.Core.Path.{_≡_, refl, _∙_, ap}
+use mathlib.Core.Path.{_≡_, ap}
 use mathlib.Core.List.{List}
 use borrow.Author.Needs.{needs}
 use Rattle.told.specs.declared.Told.{Told}

@@ -1,6 +1,5 @@
 -- `edges::edge` meets its contract: both vertices of an edge are inside the vertex list. Assumes nothing.
 use mathlib.Core.Path.{refl}
-use denote.Ref.{now}
 use Rattle.stored.proofs.Records.{lies}
 use Rattle.edges.proofs.Inside.{slot-inside, corner-stored, after-stored, edge-stored}
 use borrow.Author.Needs.{needs}

@@ -5,7 +5,7 @@ use borrow.Author.Needs.{needs}
 use mathlib.Core.Path.{_≡_, sym}
 use native.Mathlib.Omega.{arith}
 use Rattle.edges.specs.Where.{polygonOf}
-use mathlib.Core.Bool.{true, false, not}
+use mathlib.Core.Bool.{false}
 use Rattle.stored.specs.Stored.{floorIn}
 use Rattle.edges.specs.Where.{contains}
 use Rattle.stored.proofs.Records.{polygons-counted}

@@ -1,6 +1,5 @@
 -- `faults::is_below` meets its contract. Assumes nothing.
 use mathlib.Core.Path.{refl}
-use borrow.Author.Needs.{needs}
 use Rattle.faults.proofs.is_below.Statement.{statement}
 use Rattle.faults.proofs.is_below.Tie as tie
 

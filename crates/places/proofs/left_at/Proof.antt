@@ -1,5 +1,4 @@
 -- `places::left_at` meets its contract. Assumes nothing.
-use native.Mathlib.Omega.{arith}
 use borrow.Author.Needs.{needs}
 use Rattle.places.specs.Layout.{leftIn, wordAt}
 use Rattle.places.proofs.left_at.Statement.{statement}

@@ -1,7 +1,5 @@
 -- `root::pattern_root` meets its contract: the nearest whole root of what is kept, behind the digits that are dropped, is the answer's pattern. Assumes
 -- nothing.
-use Prim.Native.Nat.{_+_, _^_, _≤_, _<_}
-use mathlib.Core.Path.{subst}
 use native.Mathlib.Omega.{arith}
 use borrow.Author.Needs.{needs}
 use Rattle.root.specs.Scale.{Close, left}

@@ -1,5 +1,5 @@
 -- `root::raised` meets its contract: what holds of the start holds of each next number, and the test that ends the loop is the rest. Assumes nothing.
-use Prim.Native.Nat.{ℕ, _+_, _-_, _*_, _<_, _≤_, _^_}
+use Prim.Native.Nat.{_+_, _-_, _*_, _<_, _≤_, _^_}
 use native.Mathlib.Nat.{mul-le-mul, le-of-lt}
 use native.Mathlib.Omega.{arith}
 use Rattle.root.proofs.Midpoints.{root-ends}

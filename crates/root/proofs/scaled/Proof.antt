@@ -4,7 +4,7 @@ use Prim.Native.Nat.{_%_}
 use lib.Count.{leading-le}
 use native.Mathlib.Omega.{arith}
 use borrow.Author.Needs.{needs}
-use Rattle.root.proofs.Digits.{zeros-ahead, brought, Brought}
+use Rattle.root.proofs.Digits.{zeros-ahead, brought}
 use Rattle.root.proofs.Patterns.{low-pattern-scale, high-pattern-scale}
 use Rattle.root.proofs.scaled.Statement.{statement}
 use Rattle.root.proofs.scaled.Tie as tie

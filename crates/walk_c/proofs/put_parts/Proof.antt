@@ -4,7 +4,6 @@ use Prim.Native.Nat.{_≤_, _-_}
 use mathlib.Core.Path.{_≡_, refl}
 use native.Mathlib.Numerals.{add-one}
 use native.Mathlib.Omega.{arith}
-use borrow.Author.Needs.{needs}
 use Rattle.walk_c.specs.Walk.{partsWritten}
 use Rattle.walk_c.proofs.put_parts.Statement.{statement}
 use Rattle.walk_c.proofs.put_parts.Tie as tie
