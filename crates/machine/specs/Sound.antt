@@ -3,13 +3,16 @@
 -- Definitions only. Assumes nothing.
 use Prim.Native.Nat.{ℕ, _+_, _≤_, _<_}
 use mathlib.Core.Path.{_≡_}
-use mathlib.Core.Bool.{Bool, true, not}
+use mathlib.Core.Bool.{Bool, true, false, not}
 use mathlib.Core.List.{List}
-use lib.Dec.{T}
+use lib.Dec.{T, eqb}
 use lib.ListN.{length}
 use lib.Ieee.{Float, nan, inf, fin}
 use Rattle.point.specs.declared.Point.{Point}
+use Rattle.point.specs.Point.{sameOf}
+use Rattle.plan.specs.Plan.{polygonCountIn}
 use Rattle.stored.specs.Stored.{Floor, floorIn}
+use Rattle.edges.specs.Ground.{Ground}
 use Rattle.route.specs.World.{_∈_}
 use Rattle.steps.specs.declared.Node.{Node}
 use Rattle.steps.specs.Steps.{stepsFrom, enter}
@@ -48,6 +51,17 @@ pub record Held (plan vertices polygons : List ℕ) (w : Work) (i : ℕ) : Type 
 pub record Queue (n taken : ℕ) (w : Work) : Type 0 where
   pub tree : Tree (fAt w) n (isQueued n w) (w .queue)
   pub below : (i : ℕ) → i < n → isQueued n w i ≡ true → i < taken
+
+-- ---- before the first step
+
+-- what a search asks for: an accepted floor, room for every place and one place at least, a start that is a point in a listed polygon, not the goal's
+pub record Begins (plan vertices polygons : List ℕ) (t : Task) (w : Work) : Type 0 where
+  pub ground : Ground plan vertices polygons
+  pub room : Room (t .places) w
+  pub places : 1 ≤ t .places
+  pub listed : t .trip .from < polygonCountIn plan
+  pub apart : eqb (t .trip .from) (t .trip .to) ≡ false
+  pub self : sameOf (t .trip .start) (t .trip .start) ≡ true
 
 -- ---- states
 

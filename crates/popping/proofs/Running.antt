@@ -7,8 +7,6 @@ use mathlib.Core.List.{List}
 use borrow.Author.Tests.{eq-eqb, ne-eqb}
 use lib.Dec.{eqb}
 use lib.Ieee.{Float}
-use Rattle.point.specs.Point.{sameOf}
-use Rattle.plan.specs.Plan.{polygonCountIn}
 use Rattle.stored.specs.Stored.{Floor, floorIn}
 use Rattle.edges.specs.Ground.{Ground}
 use Rattle.steps.specs.declared.Node.{Node}
@@ -21,9 +19,9 @@ use Rattle.machine.specs.declared.Finish.{Finish}
 use Rattle.machine.specs.declared.Finish.the-variants.{Emptied, Filled, Stopped}
 use Rattle.machine.specs.declared.Outcome.{Outcome}
 use Rattle.machine.specs.declared.Outcome.the-variants.{Goes, Ends}
-use Rattle.places.specs.Layout.{Work, Room, leastIn}
+use Rattle.places.specs.Layout.{Work, leastIn}
 use Rattle.machine.specs.Search.{State, stateOf, Making, Stepping, Ending, ending, madeAll, step, onwards, run, planted, begun, seedOrigin, searchedFrom}
-use Rattle.machine.specs.Sound.{Fit, Sound, OnRecord, Numbered, SoundFrom, Leaves}
+use Rattle.machine.specs.Sound.{Begins, Fit, Sound, OnRecord, Numbered, SoundFrom, Leaves}
 use Rattle.machine.proofs.Kept.{sound-step, numbered-step}
 use Rattle.machine.proofs.Begun.{sound-begun, on-first, sound-seeded, numbered-seeded}
 use Rattle.making.proofs.Looping.{AsLong}
@@ -105,15 +103,6 @@ firstOf w = stateOf w (record { taken = 1; records = 1; pops = 0 })
 
 abbrev pub leavesSeed : Node → Origin
 leavesSeed seed = record { place = 0; depth = 0; number = 0; node = seed }
-
--- what is asked of a search
-pub record Begins (plan vs ps : List ℕ) (t : Task) (was : Work) : Type 0 where
-  pub ground : Ground plan vs ps
-  pub room : Room (t .places) was
-  pub places : 1 ≤ t .places
-  pub listed : t .trip .from < polygonCountIn plan
-  pub apart : eqb (t .trip .from) (t .trip .to) ≡ false
-  pub self : sameOf (t .trip .start) (t .trip .start) ≡ true
 
 module _ {plan vs ps : List ℕ} {t : Task} {was : Work} (h : Begins plan vs ps t was) where
   abbrev first : Node

@@ -3,17 +3,13 @@
 use making::make_steps;
 use places::F_AT;
 ghost use mathlib.Core.Path.{_≡_};
-ghost use mathlib.Core.Bool.{true, false};
 ghost use Prim.Native.Nat.{_+_, _≤_, _<_, _^_};
-ghost use lib.Dec.{eqb};
-ghost use Rattle.point.specs.Point.{sameOf};
-ghost use Rattle.plan.specs.Plan.{polygonCountIn};
 ghost use Rattle.stored.specs.Stored.{Floor, floorIn};
 ghost use Rattle.edges.specs.Ground.{Ground};
 ghost use Rattle.places.specs.Layout.{workOf, Room};
 ghost use Rattle.steps.specs.Steps.{seedNode, stepsFrom};
 ghost use Rattle.machine.specs.Search.{stateOf, making, stepping, ending, visited, step, run, planted, begun, seedOrigin, madeAll, searchedFrom};
-ghost use Rattle.machine.specs.Sound.{SoundFrom};
+ghost use Rattle.machine.specs.Sound.{Begins, SoundFrom};
 use machine::Counts;
 use machine::Ended;
 use machine::Finish;
@@ -217,10 +213,7 @@ fn set_out(
     words: &mut [u32],
     tree: &mut [u32],
 ) -> Made
-    requires { ⌜ Ground (now plan) (now vertices) (now polygons) ⌝ }
-    requires { ⌜ Room (task .places) (workOf (now floats) (now words) (now tree)) × (1 ≤ task .places) ⌝ }
-    requires { let trip = task .trip in
-        ⌜ (trip .from < polygonCountIn (now plan)) × (eqb (trip .from) (trip .to) ≡ false) × (sameOf (trip .start) (trip .start) ≡ true) ⌝ }
+    requires { ⌜ Begins (now plan) (now vertices) (now polygons) task (workOf (now floats) (now words) (now tree)) ⌝ }
     ensures { λ r.
         let f = floorIn (now (plan .entry)) (now (vertices .entry)) (now (polygons .entry)) in
         let before = workOf (now (floats .entry)) (now (words .entry)) (now (tree .entry)) in
@@ -266,10 +259,7 @@ pub fn search_from(
     words: &mut [u32],
     tree: &mut [u32],
 ) -> Ended
-    requires { ⌜ Ground (now plan) (now vertices) (now polygons) ⌝ }
-    requires { ⌜ Room (task .places) (workOf (now floats) (now words) (now tree)) × (1 ≤ task .places) ⌝ }
-    requires { let trip = task .trip in
-        ⌜ (trip .from < polygonCountIn (now plan)) × (eqb (trip .from) (trip .to) ≡ false) × (sameOf (trip .start) (trip .start) ≡ true) ⌝ }
+    requires { ⌜ Begins (now plan) (now vertices) (now polygons) task (workOf (now floats) (now words) (now tree)) ⌝ }
     ensures { λ r.
         let f = floorIn (now (plan .entry)) (now (vertices .entry)) (now (polygons .entry)) in
         let before = workOf (now (floats .entry)) (now (words .entry)) (now (tree .entry)) in

@@ -1,9 +1,7 @@
 -- `popping::search_from` meets its contract. Assumes nothing.
 use borrow.Author.Needs.{needs}
-use denote.Ref.{now}
 use native.Mathlib.Omega.{arith}
-use Rattle.places.specs.Layout.{workOf}
-use Rattle.popping.proofs.Running.{Begins, made-sound, made-uncounted, searches-full, searches-on}
+use Rattle.popping.proofs.Running.{made-sound, made-uncounted, searches-full, searches-on}
 use Rattle.popping.proofs.search_from.Statement.{statement}
 use Rattle.popping.proofs.search_from.Tie as tie
 
@@ -27,30 +25,19 @@ lasting c = onward (ran c .before)
 
 -- ---- the needs
 
-begins : (s : tie.Start) → Begins (now (s .args .plan)) (now (s .args .vertices)) (now (s .args .polygons)) (s .args .task)
-    (workOf (now (s .args .floats)) (now (s .args .words)) (now (s .args .tree)))
-begins s = record {
-  ground = s .pre .0;
-  room = s .pre .1 .0 .0;
-  places = s .pre .1 .0 .1;
-  listed = s .pre .1 .1 .0;
-  apart = s .pre .1 .1 .1;
-  self = s .pre .1 .1 .2;
-}
-
 returns : tie.Need-returns
-returns c = let m = made (c .before) in searches-full (begins (start m)) (m .set-out .ensures) _ (c .if1 .taken)
+returns c = let m = made (c .before) in searches-full (start m .pre) (m .set-out .ensures) _ (c .if1 .taken)
 
 run-requires : tie.Need-run-requires
 run-requires c κs =
     let m = made (onward c .before) in
-    let h = begins (start m) in
+    let h = start m .pre in
     (h .ground, (made-sound h (m .set-out .ensures), omega (arith, made-uncounted h (m .set-out .ensures), start m .fits)))
 
 returns-2 : tie.Need-returns-2
 returns-2 c =
     let m = made (lasting c .before) in
-    searches-on (begins (start m)) (m .set-out .ensures) _ (lasting c .if1 .left) (ran c .run .ensures)
+    searches-on (start m .pre) (m .set-out .ensures) _ (lasting c .if1 .left) (ran c .run .ensures)
 
 pub search-from-spec : {M : Type 1} → statement M
 search-from-spec =

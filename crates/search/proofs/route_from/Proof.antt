@@ -32,8 +32,14 @@ returns c =
 
 search-from-requires : tie.Need-search-from-requires
 search-from-requires c κs =
-    let h = start (apart c) .pre in
-    (h .0 .0, (h .1 .0, (h .0 .1, ne-eqb _ _ (apart c .if1 .left), h .1 .1)))
+    let h = start (apart c) .pre in record {
+      ground = h .0 .0;
+      room = h .1 .0 .0;
+      places = h .1 .0 .1;
+      listed = h .0 .1;
+      apart = ne-eqb _ _ (apart c .if1 .left);
+      self = h .1 .1;
+    }
 
 tell-requires : tie.Need-tell-requires
 tell-requires c κs =
