@@ -1,5 +1,5 @@
--- What holds of every number below n, of some, which is the first, and the list of what a function gives at each; and what it says to be the lowest at
--- fault, or the least of which something holds. Definitions only. Assumes nothing.
+-- What holds of every number below n, of some, of how many, which is the first, and the list of what a function gives at each; and what it says to be the
+-- lowest at fault, or the least of which something holds. Definitions only. Assumes nothing.
 use Prim.Native.Nat.{ℕ, zero, suc, _≤_, _<_}
 use mathlib.Core.Path.{_≡_}
 use mathlib.Core.Bool.{Bool, true, false, _&&_, _||_, cond}
@@ -19,6 +19,11 @@ some (suc n) f = some n f || f n
 unfoldable pub first : ℕ → (ℕ → Bool) → ℕ
 first zero f = 0
 first (suc n) f = cond (ltb (first n f) n) (first n f) (cond (f n) n (suc n))
+
+-- the number of those below n at which f is true
+unfoldable pub tally : ℕ → (ℕ → Bool) → ℕ
+tally zero f = 0
+tally (suc n) f = cond (f n) (suc (tally n f)) (tally n f)
 
 -- f 0, f 1 and so on, n of them
 unfoldable pub table {ℓ} : {A : Type ℓ} → ℕ → (ℕ → A) → List A
