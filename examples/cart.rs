@@ -4,7 +4,7 @@
 #[path = "../include/cart.rs"]
 mod cart;
 
-use cart::{Answer, Floor, Work, BUDGET, NODE_FLOATS, NODE_TREE, NODE_WORDS, RECORD_BYTES, WORDS_BYTES};
+use cart::{Answer, Floor, Work, BUDGET, ENTRY_WORDS, NODE_FLOATS, NODE_TREE, NODE_WORDS, RECORD_BYTES, WORDS_BYTES};
 
 /// Room for a search of so many nodes, and for the longest route that they can make.
 const NODES: usize = 64;
@@ -12,7 +12,8 @@ const NODES: usize = 64;
 /// The route's bytes, or document 01's number.
 fn find(floor: Floor, question: &[u8]) -> Result<Vec<u8>, u32> {
     let (mut floats, mut words, mut tree) = ([0.0; NODE_FLOATS * NODES], [0; NODE_WORDS * NODES], [0; NODE_TREE * NODES]);
-    let work = Work { floats: &mut floats, words: &mut words, tree: &mut tree };
+    let mut table = [0; ENTRY_WORDS * NODES];
+    let work = Work { floats: &mut floats, words: &mut words, tree: &mut tree, table: &mut table };
     let mut out = vec![0; RECORD_BYTES * (NODES + 1)];
     match cart::search(floor, question, BUDGET, work, &mut out).0 {
         Answer { number: 0, value: Some(bytes) } => Ok(out[..bytes].to_vec()),

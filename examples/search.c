@@ -8,13 +8,14 @@ enum { NODES = 64 };
 static float floats[CART_NODE_FLOATS * NODES];
 static uint32_t words[CART_NODE_WORDS * NODES];
 static uint32_t tree[CART_NODE_TREE * NODES];
+static uint32_t table[CART_ENTRY_WORDS * NODES];
 static uint8_t found[CART_RECORD_BYTES * (NODES + 1)];
 
 static uint32_t search(const uint8_t *asked, size_t *steps, size_t *value) {
     *value = none;
     return cart_search(vertices, sizeof vertices, polygons, sizeof polygons, asked, CART_QUESTION_BYTES, CART_BUDGET,
                        floats, sizeof floats / sizeof floats[0], words, sizeof words / sizeof words[0],
-                       tree, sizeof tree / sizeof tree[0], found, sizeof found, steps, value);
+                       tree, sizeof tree / sizeof tree[0], table, sizeof table / sizeof table[0], found, sizeof found, steps, value);
 }
 
 static int find_route(size_t *length) {

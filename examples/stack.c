@@ -1,6 +1,7 @@
 /* How much stack each function of cart.h takes. It is called on a stack that was filled with one byte; what no longer holds that
    byte was used. The count begins at the caller's frame, so the arguments are in it. Two bytes are tried, since a function may
-   write the very one. The floors are document 01's example and a ring of eight squares, on which the way turns. */
+   write the very one. The floors are document 01's example, a ring of eight squares, on which the way turns, and three rooms round
+   the start, where the search stalls. */
 #define _XOPEN_SOURCE 700
 #include "cart.h"
 #include "floor.h"
@@ -12,6 +13,7 @@ enum { NODES = 4096, SIDE = 4, SQUARES = 8 };
 static float floats[CART_NODE_FLOATS * NODES];
 static uint32_t words[CART_NODE_WORDS * NODES];
 static uint32_t tree[CART_NODE_TREE * NODES];
+static uint32_t table[CART_ENTRY_WORDS * NODES];
 static uint8_t found[CART_ROUTE_BYTES];
 static float points[CART_POINTS_FLOATS];
 
@@ -28,7 +30,7 @@ static ucontext_t here, there;
 static void call_search(void) {
     frame = __builtin_frame_address(0);
     number = cart_search(v, v_length, p, p_length, q, 16, CART_BUDGET, floats, CART_NODE_FLOATS * NODES, words, CART_NODE_WORDS * NODES,
-                         tree, CART_NODE_TREE * NODES, found, sizeof found, &steps, &value);
+                         tree, CART_NODE_TREE * NODES, table, CART_ENTRY_WORDS * NODES, found, sizeof found, &steps, &value);
 }
 
 static void call_judge(void) {
@@ -125,12 +127,36 @@ static void make_ring(void) {
     put_float(ring_question + 12, 2.5f);
 }
 
+/* As in docs/DIFFERENCES.md: three quadrilaterals round the start, and the goal in a fourth polygon. */
+enum { ROUND_VERTICES = 8, ROUND_POLYGONS = 4 };
+static const float round_points[ROUND_VERTICES][2] = {{0, 0}, {1, 0}, {1, 1}, {0, 1}, {-1, 1}, {-1, -1}, {1, -1}, {2, -1}};
+static const uint32_t round_corners[ROUND_POLYGONS][4] = {{0, 1, 2, 3}, {0, 3, 4, 5}, {0, 5, 6, 1}, {1, 7, 2, 0xFFFFFFFF}};
+static const uint32_t round_across[ROUND_POLYGONS][4] = {{2, 3, 0xFFFFFFFF, 1}, {0, 0xFFFFFFFF, 0xFFFFFFFF, 2},
+                                                        {1, 0xFFFFFFFF, 0xFFFFFFFF, 0}, {0xFFFFFFFF, 0xFFFFFFFF, 0, 0xFFFFFFFF}};
+static uint8_t round_vertices[8 * ROUND_VERTICES], round_polygons[64 * ROUND_POLYGONS], round_question[16];
+
+static void make_round(void) {
+    for (int i = 0; i < ROUND_VERTICES; i++)
+        for (int k = 0; k < 2; k++) put_float(round_vertices + 8 * i + 4 * k, round_points[i][k]);
+    memset(round_polygons, 0xFF, sizeof round_polygons);
+    for (int i = 0; i < ROUND_POLYGONS; i++)
+        for (int k = 0; k < 4; k++) {
+            put(round_polygons + 64 * i + 4 * k, round_corners[i][k]);
+            put(round_polygons + 64 * i + 32 + 4 * k, round_across[i][k]);
+        }
+    put_float(round_question + 8, 2.0f);
+    put_float(round_question + 12, -1.0f);
+}
+
 int main(void) {
     v = vertices, v_length = sizeof vertices, p = polygons, p_length = sizeof polygons, q = question;
     int right = measure("document 01's example");
     make_ring();
     v = ring_vertices, v_length = sizeof ring_vertices, p = ring_polygons, p_length = sizeof ring_polygons, q = ring_question;
     right = measure("a ring of squares") && right;
+    make_round();
+    v = round_vertices, v_length = sizeof round_vertices, p = round_polygons, p_length = sizeof round_polygons, q = round_question;
+    right = measure("three rooms round the start") && right;
     printf("cart_words %zu bytes of stack\n", used(call_words));
     return right ? 0 : 1;
 }

@@ -13,7 +13,7 @@
    geometry.h, which comes with this file, has document 01's geometry, the clip and the walk of one edge; they have libraries of
    their own.
 
-   Stack, with the arguments, on x86-64: cart_search 1,728 bytes, cart_judge 1,016, cart_read_out 1,144, cart_words 8. That is what
+   Stack, with the arguments, on x86-64: cart_search 1,872 bytes, cart_judge 1,016, cart_read_out 1,144, cart_words 8. That is what
    examples/stack.c measures (docs/DECISIONS.md). */
 
 #ifndef CART_H
@@ -41,12 +41,14 @@ enum {
 };
 
 /* What cart_search needs for each node. For n nodes lend CART_NODE_FLOATS * n floats, CART_NODE_WORDS * n words,
-   CART_NODE_TREE * n words for the tree, and CART_RECORD_BYTES * (n + 1) bytes for the route: then 13 never comes. */
+   CART_NODE_TREE * n words for the tree, CART_ENTRY_WORDS * n words for the table, and CART_RECORD_BYTES * (n + 1) bytes for the
+   route: then 13 and 14 never come (`wide-is-never-short`, `never-14`). */
 enum {
     CART_NODE_FLOATS = 11,
     CART_NODE_WORDS = 8,
     CART_NODE_TREE = 2,
-    CART_MOST_NODES = 4096,  /* room for more is not used */
+    CART_ENTRY_WORDS = 10,   /* an entry of the table: a node that a stalled search has met */
+    CART_MOST_NODES = 4096,  /* room for more nodes, or for more entries, is not used */
     CART_BUDGET = 4096       /* the budget where there is no reason for another */
 };
 
@@ -58,17 +60,24 @@ enum {
     11  a node was needed and all are used: lend more, up to CART_MOST_NODES
     12  the budget is spent: allow more steps
     13  a route was found and `out` is too short for it
+    14  the search stalled, and its table is full: lend as many entries as nodes
 
    The nodes that the work buffers hold are floats_length / CART_NODE_FLOATS, words_length / CART_NODE_WORDS or tree_length /
    CART_NODE_TREE, whichever is least, and CART_MOST_NODES at most. The buffers may hold anything before the call. The budget is
    the most steps that the search may take; each takes one node from the queue.
+
+   A search stalls when it has taken more than 512 nodes in a row that bring it no nearer: it goes round and round. From then on it
+   enters each node that it meets into the table, and drops one that it has met before. The table's entries are table_length /
+   CART_ENTRY_WORDS, CART_MOST_NODES at most; they have no part in the number of nodes. Any length will do, 0 too: a search that does
+   not stall never needs an entry.
 
    *steps is written with every answer: the steps taken, 0 with 2 to 10.
    *value is written with 0, 4, 5 and 6 alone: with 0 the bytes of the route, with 4, 5 and 6 the lowest record at fault, as
    cart_judge has it. With every other answer it stays as it is.
    `out` is written with 0 alone: the route stands in its first *value bytes, and those behind stay as they are.
    The work buffers stay as they are with 2 to 10, and where start and goal lie in one polygon. With every other answer they hold
-   the search as it ended (docs/BUFFERS.md has every word); nothing has to be read there.
+   the search as it ended (docs/BUFFERS.md has every word); nothing has to be read there. The table stays as it is too, unless the
+   search stalls.
 
    A route that was found is one that cart_judge accepts: that is proved too (`found-is-accepted`). */
 uint32_t cart_search(
@@ -79,6 +88,7 @@ uint32_t cart_search(
     float *floats, size_t floats_length,
     uint32_t *words, size_t words_length,
     uint32_t *tree, size_t tree_length,
+    uint32_t *table, size_t table_length,
     uint8_t *out, size_t out_length,
     size_t *steps,
     size_t *value);

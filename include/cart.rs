@@ -14,6 +14,8 @@ pub const NODE_FLOATS: usize = 11;
 pub const NODE_WORDS: usize = 8;
 pub const NODE_TREE: usize = 2;
 pub const MOST_NODES: usize = 4096;
+/// What an entry of the table takes. With as many entries as nodes 14 never comes, and more than `MOST_NODES` are not used.
+pub const ENTRY_WORDS: usize = 10;
 /// Room for any route.
 pub const ROUTE_BYTES: usize = RECORD_BYTES * (MOST_NODES + 1);
 /// The budget where there is no reason for another.
@@ -25,8 +27,8 @@ extern "C" {
     fn cart_search(
         vertices: *const u8, vertices_length: usize, polygons: *const u8, polygons_length: usize,
         question: *const u8, question_length: usize, budget: usize, floats: *mut f32, floats_length: usize,
-        words: *mut u32, words_length: usize, tree: *mut u32, tree_length: usize, out: *mut u8, out_length: usize,
-        steps: &mut usize, value: &mut usize,
+        words: *mut u32, words_length: usize, tree: *mut u32, tree_length: usize, table: *mut u32, table_length: usize,
+        out: *mut u8, out_length: usize, steps: &mut usize, value: &mut usize,
     ) -> u32;
     fn cart_judge(
         vertices: *const u8, vertices_length: usize, polygons: *const u8, polygons_length: usize,
@@ -47,11 +49,12 @@ pub struct Floor<'a> {
     pub polygons: &'a [u8],
 }
 
-/// The work buffers of a search.
+/// The work buffers of a search, and the table of one that stalls.
 pub struct Work<'a> {
     pub floats: &'a mut [f32],
     pub words: &'a mut [u32],
     pub tree: &'a mut [u32],
+    pub table: &'a mut [u32],
 }
 
 /// The number, and what was written to `*value` or `*record`, if anything was.
@@ -75,14 +78,14 @@ impl Answer {
 /// The answer, and the steps that were taken.
 pub fn search(floor: Floor, question: &[u8], budget: usize, work: Work, out: &mut [u8]) -> (Answer, usize) {
     let Floor { vertices, polygons } = floor;
-    let Work { floats, words, tree } = work;
+    let Work { floats, words, tree, table } = work;
     let (mut steps, mut value) = (UNWRITTEN, UNWRITTEN);
     #[rustfmt::skip]
     let number = unsafe {
         cart_search(
             vertices.as_ptr(), vertices.len(), polygons.as_ptr(), polygons.len(), question.as_ptr(), question.len(), budget,
             floats.as_mut_ptr(), floats.len(), words.as_mut_ptr(), words.len(), tree.as_mut_ptr(), tree.len(),
-            out.as_mut_ptr(), out.len(), &mut steps, &mut value,
+            table.as_mut_ptr(), table.len(), out.as_mut_ptr(), out.len(), &mut steps, &mut value,
         )
     };
     (Answer::new(number, value), steps)

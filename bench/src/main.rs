@@ -46,6 +46,9 @@ struct Bench {
     questions: Vec<(Place, Place)>,
     /// The route that ours finds for each.
     routes: Vec<Vec<u8>>,
+    /// The questions on which ours stalls before it finds a route, with the counted steps and the least nanoseconds yet of a whole call. They
+    /// are timed apart.
+    stalled: Vec<(Place, Place, usize, f64)>,
     /// Nanoseconds of each question, the least yet of what `timed` gives.
     least: Vec<[f64; 5]>,
 }
@@ -55,7 +58,8 @@ impl Bench {
         let mut halls = drawn_by(number, 0);
         let hall = Hall::new(halls.floor(shape, polygons));
         let least = vec![[f64::INFINITY; 5]; QUESTIONS];
-        let mut bench = Bench { shape, hall, drawn: Drawn::default(), questions: Vec::new(), routes: Vec::new(), least };
+        let (drawn, questions, routes, stalled) = (Drawn::default(), Vec::new(), Vec::new(), Vec::new());
+        let mut bench = Bench { shape, hall, drawn, questions, routes, stalled, least };
         while bench.questions.len() < QUESTIONS {
             let ends = (halls.point(&bench.hall.floor), halls.point(&bench.hall.floor));
             bench.draw(ends, lent);
@@ -75,7 +79,9 @@ impl Bench {
         };
         let told = self.hall.told(lent, start, goal);
         let rusts = self.hall.rusts(asked).is_some();
-        if told.number == 0 && rusts {
+        if told.number == 0 && rusts && told.is_stalled() {
+            self.stalled.push((asked.0, asked.1, told.steps, f64::INFINITY));
+        } else if told.number == 0 && rusts {
             self.questions.push(asked);
             self.routes.push(told.route);
         } else {
@@ -91,6 +97,17 @@ impl Bench {
             let now = timed(self, place, lent);
             self.least[place].iter_mut().zip(now).for_each(|(least, now)| *least = least.min(now));
         }
+        for ((start, _), (goal, _), _, least) in &mut self.stalled {
+            *least = least.min(nanoseconds(|| self.hall.ours(lent, *start, *goal)));
+        }
+    }
+
+    /// How many stalled, and what each of them took.
+    fn stalls(&self) -> String {
+        let count = self.stalled.len();
+        let (steps, least) = self.stalled.iter().fold((0, 0.0), |(steps, sum), (_, _, more, least)| (steps + more, sum + least));
+        let of_each = |sum: f64| sum / count as f64;
+        format!("{:<16}{count:>10}{:>10.0}{:>14.1}", self.name(), of_each(steps as f64), of_each(least) / 1000.0)
     }
 
     /// Over all questions.
@@ -167,6 +184,8 @@ fn main() {
     println!("Microseconds a question, nanoseconds a pop, a made node and a record: of each of {QUESTIONS} questions the least of {repetitions} calls.");
     println!("\n{:<16}{:>10}{:>10}{:>14}   left out, by our number", "questions", "drawn", "timed", "one polygon");
     benches.iter().for_each(|bench| println!("{:<16}{}", bench.name(), bench.drawn.row()));
+    println!("\n{:<16}{:>10}{:>10}{:>14}", "stalled", "found", "steps", "microseconds");
+    benches.iter().filter(|bench| !bench.stalled.is_empty()).for_each(|bench| println!("{}", bench.stalls()));
 }
 
 /// The counted steps.

@@ -1,5 +1,5 @@
-//! How often our search answers 11 though links lead from start to goal, and what helps then: the start or the goal moved a hand's
-//! breadth, or a stop on the way.
+//! How often our search finds no route though links lead from start to goal, with which number, and what helps then: the start or the
+//! goal moved a hand's breadth, or a stop on the way.
 
 use glam::Vec2;
 use polyanya::Path;
@@ -13,7 +13,8 @@ const GRIDS: usize = 6;
 /// Floors of a kind, the first of them the one that is timed, and questions of a floor.
 const FLOORS: u64 = 10;
 const QUESTIONS: usize = 100;
-const NO_PLACE_LEFT: u32 = 11;
+/// The numbers that a search without a route may end in here.
+const MISSES: [u32; 4] = [1, 11, 12, 14];
 /// A hand's breadth, eight ways.
 const HAND: f32 = 0.1;
 const WAYS: [(f32, f32); 8] = [(1.0, 0.0), (0.7, 0.7), (0.0, 1.0), (-0.7, 0.7), (-1.0, 0.0), (-0.7, -0.7), (0.0, -1.0), (0.7, -0.7)];
@@ -22,8 +23,8 @@ const WAYS: [(f32, f32); 8] = [(1.0, 0.0), (0.7, 0.7), (0.0, 1.0), (-0.7, 0.7), 
 struct Counts {
     /// Links lead from start to goal.
     joined: usize,
-    /// Ours answers 11 all the same; and in how many of these each thing helps.
-    stalls: usize,
+    /// Ours finds none all the same, by number; and in how many of these each thing helps.
+    misses: [usize; 4],
     rusts: usize,
     start_moved: usize,
     goal_moved: usize,
@@ -35,8 +36,8 @@ struct Counts {
 }
 
 pub fn print(lent: &mut Lent) {
-    println!("11 though links lead from start to goal, on {FLOORS} floors of a kind, {QUESTIONS} questions on each");
-    let columns = ["joined", "11", "Rust finds", "start +0.1", "goal +0.1", "stop at .5", ".3, .5, .7"];
+    println!("No route though links lead from start to goal, by number, on {FLOORS} floors of a kind, {QUESTIONS} questions on each");
+    let columns = ["joined", "1", "11", "12", "14", "Rust finds", "start +0.1", "goal +0.1", "stop at .5", ".3, .5, .7"];
     let columns: String = columns.iter().map(|name| format!("{name:>11}")).collect();
     for (title, inside) in [("start inside", true), ("start on vertex", false)] {
         println!("{title:<16}{columns}");
@@ -44,7 +45,7 @@ pub fn print(lent: &mut Lent) {
         rows.iter().enumerate().for_each(|(place, counts)| println!("{}", counts.row(place)));
         if inside {
             let nearest = rows.iter().fold(f32::INFINITY, |nearest, counts| nearest.min(counts.nearest));
-            println!("Of these 11s no start or goal is nearer than {nearest:.3} to an edge.");
+            println!("Of these that find none no start or goal is nearer than {nearest:.3} to an edge.");
         }
     }
 }
@@ -69,8 +70,9 @@ fn counted(place: usize, inside: bool, lent: &mut Lent) -> Counts {
 impl Counts {
     fn row(&self, place: usize) -> String {
         let (shape, polygons) = crate::FLOORS[place];
-        let counts = [self.joined, self.stalls, self.rusts, self.start_moved, self.goal_moved, self.halfway, self.on_the_way];
-        format!("{:<16}{}", name(polygons, shape), counts.map(|count| format!("{count:>11}")).concat())
+        let helped = [self.rusts, self.start_moved, self.goal_moved, self.halfway, self.on_the_way];
+        let counts = [self.joined].into_iter().chain(self.misses).chain(helped);
+        format!("{:<16}{}", name(polygons, shape), counts.map(|count| format!("{count:>11}")).collect::<String>())
     }
 
     fn add(&mut self, hall: &Hall, ends: (Place, Place), lent: &mut Lent) {
@@ -79,10 +81,11 @@ impl Counts {
         }
         self.joined += 1;
         let ((start, _), (goal, _)) = ends;
-        if hall.ours(lent, start, goal).0 != NO_PLACE_LEFT {
+        let number = hall.ours(lent, start, goal).0;
+        if number == 0 {
             return;
         }
-        self.stalls += 1;
+        self.misses[MISSES.iter().position(|&miss| miss == number).expect("a number of a search")] += 1;
         self.nearest = self.nearest.min(to_an_edge(hall, start)).min(to_an_edge(hall, goal));
         let moved = |point: Vec2| WAYS.map(|(x, y)| point + Vec2::new(x, y) * HAND);
         self.start_moved += moved(start).into_iter().any(|start| hall.finds(lent, start, goal)) as usize;

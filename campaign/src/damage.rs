@@ -2,7 +2,7 @@
 
 use harness::random::Random;
 
-use crate::cart::{MOST_NODES, NODE_FLOATS, NODE_TREE, NODE_WORDS, ROUTE_BYTES};
+use crate::cart::{ENTRY_WORDS, MOST_NODES, NODE_FLOATS, NODE_TREE, NODE_WORDS, ROUTE_BYTES};
 use crate::files::Files;
 use crate::lent::Lengths;
 
@@ -83,7 +83,9 @@ impl Damage {
         };
         let out = if self.one_in(4) { self.below(300) } else { ROUTE_BYTES };
         let [floats, words, tree] = [NODE_FLOATS, NODE_WORDS, NODE_TREE].map(|size| self.about(size * places, size));
-        (budget, Lengths { floats, words, tree, out })
+        let entries = if self.one_in(4) { self.below(30) } else { places };
+        let table = self.about(ENTRY_WORDS * entries, ENTRY_WORDS);
+        (budget, Lengths { floats, words, tree, table, out })
     }
 
     /// So many cells, or some more or fewer.

@@ -1,5 +1,5 @@
 //! Damaged input, at scale: random and damaged floors, questions, routes and lent buffers, each given to the proved search, judge and
-//! read-out and to document 01's own sentences (judge01, search01). Every answer and every lent byte must be as they say.
+//! read-out and to the documents' own sentences (judge01, search01). Every answer and every lent byte must be as they say.
 
 #[path = "../compare/cart.rs"]
 mod cart;
@@ -22,7 +22,7 @@ use harness::floors::Floors;
 use harness::halls::{Halls, SHAPES};
 use harness::judge01::{self, Read, Refused};
 use harness::search01;
-use lent::{Lent, Told};
+use lent::{Lengths, Lent, Told};
 
 const CHUNK: usize = 256;
 const SEED: u64 = 0xCA3B_A161;
@@ -103,11 +103,12 @@ fn try_chunk(chunk: usize, counts: &mut Counts) {
 }
 
 /// Whether it may be the answer of a search: a number of the table with what comes with it, and on 0 a route that document 01 accepts.
-fn may_be(told: &Told, read: &Read, budget: usize) -> bool {
+fn may_be(told: &Told, read: &Read, budget: usize, lengths: &Lengths) -> bool {
     let is_fit = match told.number {
         0 => told.value == Some(told.route.len()) && judge01::judge(read, &told.route).is_ok(),
         1 | 11 | 13 => told.value.is_none(),
         12 => told.value.is_none() && told.steps == budget,
+        14 => told.value.is_none() && lengths.entries() < lengths.places() && told.table.is_full(),
         _ => false,
     };
     is_fit && !told.strayed && told.steps <= budget && told.worked == (read.from != read.to)
@@ -118,14 +119,14 @@ fn try_search(files: &Files, read: &Result<Read, Refused>, damage: &mut Damage, 
     let (budget, lengths) = damage.lends();
     let told = Lent::new(&lengths).told(files.floor(), &files.question, budget, &lengths);
     let by_document = |read: &Read| {
-        let answer = search01::search(&read.floor, read.start, read.goal, lengths.places(), budget);
-        Told::by_document(&answer, lengths.out)
+        let answer = search01::search(&read.floor, read.start, read.goal, lengths.lends(budget));
+        Told::by_document(&answer, &lengths)
     };
     // None where the answer may not be.
     let expected = match read {
-        Err((number, record)) => Some(Told::refused(*number, *record)),
+        Err((number, record)) => Some(Told::refused(*number, *record, &lengths)),
         Ok(read) if lengths.places() == 0 || damage.one_in(16) => Some(by_document(read)),
-        Ok(read) => may_be(&told, read, budget).then(|| told.clone()),
+        Ok(read) => may_be(&told, read, budget, &lengths).then(|| told.clone()),
     };
     counts.check("search", told.number, expected.as_ref(), Some(&told), files);
     (told.number == 0).then_some(told.route)

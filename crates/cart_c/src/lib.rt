@@ -9,7 +9,7 @@ ghost use Rattle.judge.specs.Verdict.{verdictOf, verdictNumber, verdictRecord};
 ghost use Rattle.readout.specs.Readout.{readoutOf, writtenOf, readoutNumber, readoutValues};
 ghost use Rattle.says.specs.Words.{wordsOf, laid};
 ghost use Rattle.places.specs.Layout.{workOf};
-ghost use Rattle.search.specs.Whole.{searchOf};
+ghost use Rattle.search.specs.Whole.{lentOf, searchOf};
 ghost use Rattle.cart_c.specs.Handed.{handedOf, handedBy};
 ghost use Rattle.cart_c.specs.Written.{valueWritten, atOf, recordWritten};
 use told::Told;
@@ -82,7 +82,7 @@ pub extern "C" fn cart_words(number: u32, room: &mut [u8; 64]) -> usize
     says::words(number, room)
 }
 
-// The search. Document 01's number: 0 where a route was found, else 1 to 13; the counted steps; and on 0 the bytes written, with
+// The search. Document 01's number: 0 where a route was found, else 1 to 14; the counted steps; and on 0 the bytes written, with
 // 4, 5 and 6 the record at fault.
 #[no_mangle]
 pub extern "C" fn cart_search(
@@ -93,13 +93,14 @@ pub extern "C" fn cart_search(
     floats: &mut [f32],
     words: &mut [u32],
     tree: &mut [u32],
+    table: &mut [u32],
     out: &mut [u8],
     steps: &mut usize,
     value: &mut usize,
 ) -> u32
     ensures { λ r.
-        let before = workOf (now (floats .entry)) (now (words .entry)) (now (tree .entry)) in
-        let after = workOf (now (floats .exit)) (now (words .exit)) (now (tree .exit)) in
+        let before = lentOf (workOf (now (floats .entry)) (now (words .entry)) (now (tree .entry))) (now (table .entry)) in
+        let after = lentOf (workOf (now (floats .exit)) (now (words .exit)) (now (tree .exit))) (now (table .exit)) in
         let search = searchOf 8 (now (vertices .entry)) (now (polygons .entry)) (now (question .entry)) budget before (now (out .entry)) in
         ⌜ handedOf r after (now (out .exit)) (now (steps .exit)) (now (value .exit)) ≡ handedBy search (now (value .entry)) ⌝ }
 {
@@ -111,6 +112,7 @@ pub extern "C" fn cart_search(
         floats,
         words,
         tree,
+        table,
         out,
     );
     *steps = answer.steps();

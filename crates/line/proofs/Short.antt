@@ -20,6 +20,7 @@ at-most-64 number =
     (short (eqb number 11) _ _ (omega arith)
     (short (eqb number 12) _ _ (omega arith)
     (short (eqb number 13) _ _ (omega arith)
+    (short (eqb number 14) _ _ (omega arith)
     (short (eqb number 2) _ _ (omega arith)
     (short (eqb number 3) _ _ (omega arith)
     (short (eqb number 4) _ _ (omega arith)
@@ -32,4 +33,4 @@ at-most-64 number =
     (short (eqb number 21) _ _ (omega arith)
     (short (eqb number 22) _ _ (omega arith)
     (short (eqb number 23) _ _ (omega arith)
-    (omega arith))))))))))))))))))
+    (omega arith)))))))))))))))))))

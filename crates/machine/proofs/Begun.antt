@@ -33,7 +33,8 @@ use Rattle.machine.specs.Sound.{isPlus, Held, Sound, OnRecord, Numbered}
 use Rattle.places.proofs.Rows.{node-same, node-put, polygon-put, parent-put, depth-put, number-put, put-floats-length, put-words-length, record-length}
 use Rattle.places.proofs.Rows.{record-beside}
 use Rattle.places.proofs.Records.{record-root-there, record-for-new}
-use Rattle.machine.proofs.Kept.{Origins, sound-made-all, Finishes, sound-run}
+use Rattle.machine.proofs.Kept.{Origins, sound-made-all}
+use Rattle.machine.proofs.Turning.{Finishes, sound-run}
 
 module _ (plan vs ps : List ℕ) (t : Task) (g : Ground plan vs ps) (listed : t .trip .from < polygonCountIn plan) (w : Work) (room : Room (t .places) w)
     (places : 1 ≤ t .places) where
@@ -106,7 +107,7 @@ module _ (plan vs ps : List ℕ) (t : Task) (g : Ground plan vs ps) (listed : t 
   unfolding search.begun search.planted
   empty-tree = cleared-tree (fAt (search.planted f t seed w)) n nothing (w .queue) (room .queue-room) (λ i l. refl)
 
-  none-queued : (i : ℕ) → i < n → isQueued n (first .work) i ≡ false
+  pub none-queued : (i : ℕ) → i < n → isQueued n (first .work) i ≡ false
   none-queued i l = queued-is (fAt (first .work)) n nothing (first .work .queue) few empty-tree i l
 
   seed-plus : T (isPlus (seed .length))
@@ -154,6 +155,7 @@ module _ (plan vs ps : List ℕ) (t : Task) (g : Ground plan vs ps) (listed : t 
     held = λ i l. subst (Held plan vs ps (first .work)) (lowest i l) first-held;
     entered = λ i z l. absurd (omega arith);
     no-nan = λ i l q. untrue (sym (none-queued i l) ∙ q);
+    no-minus = λ i l q. untrue (sym (none-queued i l) ∙ q);
   }
     where
       lowest : (i : ℕ) → i < 1 → 0 ≡ i
@@ -171,31 +173,41 @@ module _ (plan vs ps : List ℕ) (t : Task) (g : Ground plan vs ps) (listed : t 
 
   -- ---- the seed's steps are made, and the search runs
 
-  origins : Origins plan vs ps t seed first (search.seedOrigin f t seed)
+  pub seed-origins : Origins plan vs ps t seed first (search.seedOrigin f t seed)
   unfolding search.seedOrigin search.begun
-  origins = record { place-in = omega arith; node-is = sym its-seed; depth-is = sym its-depth }
+  seed-origins = record { place-in = omega arith; node-is = sym its-seed; depth-is = sym its-depth }
 
   abbrev steps : List Step
   steps = stepsFrom f (t .trip .to) seed
 
-  own : (x : Step) → x ∈ steps → x ∈ stepsFrom f (t .trip .to) (search.seedOrigin f t seed .node)
+  pub seed-steps : (x : Step) → x ∈ steps → x ∈ stepsFrom f (t .trip .to) (search.seedOrigin f t seed .node)
   unfolding search.seedOrigin
-  own x m = m
+  seed-steps x m = m
 
-  pub sound-seeded : Sound plan vs ps t seed (search.madeAll f t first (search.seedOrigin f t seed) steps .state)
-  sound-seeded = sound-made-all plan vs ps t seed g steps first (search.seedOrigin f t seed) sound-begun origins own .sound
+  abbrev made-first : search.Making
+  made-first = search.madeAll f t first (search.seedOrigin f t seed) steps
 
-  pub numbered-seeded : sameOf start start ≡ true → Numbered (search.madeAll f t first (search.seedOrigin f t seed) steps .state)
-  numbered-seeded self = sound-made-all plan vs ps t seed g steps first (search.seedOrigin f t seed) sound-begun origins own .numbered (numbered-begun self)
+  pub outset-is : search.outset f t w ≡ made-first
+  unfolding search.outset
+  outset-is = refl
+
+  pub sound-seeded : Sound plan vs ps t seed (search.outset f t w .state)
+  sound-seeded =
+      rw outset-is (sound-made-all plan vs ps t seed g steps first (search.seedOrigin f t seed) sound-begun seed-origins seed-steps .sound)
+
+  pub numbered-seeded : sameOf start start ≡ true → Numbered (search.outset f t w .state)
+  numbered-seeded self =
+      rw outset-is
+      (sound-made-all plan vs ps t seed g steps first (search.seedOrigin f t seed) sound-begun seed-origins seed-steps .numbered (numbered-begun self))
 
   -- however it ends, what it leaves is sound, and where it arrives is a place in the goal polygon
-  pub sound-searched : (budget : ℕ) → Finishes plan vs ps t seed g (search.searchedFrom f t budget w)
+  pub sound-searched : (budget : ℕ) (table : List ℕ) → Finishes plan vs ps t seed g (search.searchedFrom f t budget w table)
   unfolding search.searchedFrom
-  sound-searched budget = go (search.madeAll f t first (search.seedOrigin f t seed) steps .full)
+  sound-searched budget table = go (search.outset f t w .full)
     where
-      m : search.Making
-      m = search.madeAll f t first (search.seedOrigin f t seed) steps
+      x : search.Searching
+      x = search.searching (search.outset f t w .state) search.calm table
 
-      go : (b : Bool) → Finishes plan vs ps t seed g (cond b (search.ending (m .state) Filled) (search.run f t budget (m .state)))
+      go : (b : Bool) → Finishes plan vs ps t seed g (cond b (search.closing x Filled) (search.run f t budget x))
       go true = record { sound = sound-seeded; arrives = tt }
-      go false = sound-run plan vs ps t seed g budget (m .state) sound-seeded
+      go false = sound-run plan vs ps t seed g budget x sound-seeded

@@ -18,12 +18,15 @@ use Rattle.machine.specs.declared.Task.{Task}
 use Rattle.machine.specs.declared.Origin.{Origin}
 use Rattle.machine.specs.declared.Finish.the-variants.{Arrived, Emptied, Filled}
 use Rattle.machine.specs.declared.Outcome.the-variants.{Goes, Ends}
-use Rattle.places.specs.Layout.{nodeAt, recordFor, putQueued, leastIn}
+use Rattle.places.specs.Layout.{nodeAt, recordFor, putQueued, leastIn, fAt}
+use Rattle.seen.specs.declared.Entry.{Entry}
+use Rattle.seen.specs.declared.Entry.the-variants.{New, Seen, NoRoom}
+use Rattle.seen.specs.Table.{keyOf, Remembered, remembered}
 use Rattle.machine.specs.Search.{State, stateOf, Making, making, stepping, tookPlace, tookRecord, counted, recorded, queued, isBeaten, kept, placed}
-use Rattle.machine.specs.Search.{taken, originAt, made, madeAll, afterMaking, visited, popped, step}
+use Rattle.machine.specs.Search.{taken, originAt, made, madeAll, afterMaking, pursued, popped, Searching, turning, watched, met, visited, step}
 use Rattle.machine.proofs.Fitting.{recordedFound, recordedNew}
 
-pops-recorded : (s : State) (node : Node) → recorded s node .counts .pops ≡ s .counts .pops
+pub pops-recorded : (s : State) (node : Node) → recorded s node .counts .pops ≡ s .counts .pops
 unfolding recorded tookRecord
 pops-recorded s node = go (ltb r (s .counts .records))
   where
@@ -34,7 +37,7 @@ pops-recorded s node = go (ltb r (s .counts .records))
     go true = refl
     go false = refl
 
-pops-kept : (n : ℕ) (s : State) (i : ℕ) (node : Node) → kept n s i node .counts .pops ≡ s .counts .pops
+pub pops-kept : (n : ℕ) (s : State) (i : ℕ) (node : Node) → kept n s i node .counts .pops ≡ s .counts .pops
 unfolding kept queued
 pops-kept n s i node = go (isBeaten s node)
   where
@@ -88,30 +91,48 @@ module _ (f : Floor) (t : Task) where
       go true = refl
       go false = refl
 
-  pops-visited : (s : State) (i : ℕ) → visited f t s i .state .counts .pops ≡ s .counts .pops
-  unfolding visited
-  pops-visited s i = go (isBeaten s (nodeAt (s .work) i)) (isInGoal (t .trip .to) (nodeAt (s .work) i))
+  pub pops-pursued : (s : State) (i : ℕ) → pursued f t s i .state .counts .pops ≡ s .counts .pops
+  unfolding pursued
+  pops-pursued s i = go (isInGoal (t .trip .to) (nodeAt (s .work) i))
     where
       m : Making
       m = madeAll f t s (originAt (s .work) i) (stepsFrom f (t .trip .to) (nodeAt (s .work) i))
 
-      go : (a b : Bool) → (cond a (stepping s Goes) (cond b (stepping s (Ends (Arrived i))) (afterMaking f t m))) .state .counts .pops ≡ s .counts .pops
-      go true b = refl
-      go false true = refl
-      go false false = pops-after m ∙ pops-made-all (stepsFrom f (t .trip .to) (nodeAt (s .work) i)) s (originAt (s .work) i)
+      go : (b : Bool) → (cond b (stepping s (Ends (Arrived i))) (afterMaking f t m)) .state .counts .pops ≡ s .counts .pops
+      go true = refl
+      go false = pops-after m ∙ pops-made-all (stepsFrom f (t .trip .to) (nodeAt (s .work) i)) s (originAt (s .work) i)
 
-  pops-popped : (s : State) (i : ℕ) → popped f t s i .counts .pops ≡ s .counts .pops + 1
-  unfolding popped counted
-  pops-popped s i = refl
+  pops-met : (x : Searching) (i : ℕ) (e : Entry) (table : List ℕ) → met f t x i e table .search .state .counts .pops ≡ x .state .counts .pops
+  pops-met x i New table = pops-pursued (x .state) i
+  pops-met x i Seen table = refl
+  pops-met x i NoRoom table = refl
+
+  pub pops-visited : (x : Searching) (i : ℕ) → visited f t x i .search .state .counts .pops ≡ x .state .counts .pops
+  unfolding visited
+  pops-visited x i = go (isBeaten (x .state) (nodeAt (x .state .work) i))
+    where
+      r : Remembered
+      r = remembered (x .stall .recording) (x .table) (keyOf (nodeAt (x .state .work) i))
+
+      go : (b : Bool) → (cond b (turning x Goes) (met f t x i (r .entry) (r .table))) .search .state .counts .pops ≡ x .state .counts .pops
+      go true = refl
+      go false = pops-met x i (r .entry) (r .table)
+
+  pub pops-next : (x : Searching) (i : ℕ) (value : Float) → watched x (popped f t (x .state) i) value .state .counts .pops ≡ x .state .counts .pops + 1
+  unfolding watched popped counted
+  pops-next x i value = refl
 
   -- "count one"
-  pub pops-step : (s : State) → step f t s .state .counts .pops ≤ s .counts .pops + 1
+  pub pops-step : (x : Searching) → step f t x .search .state .counts .pops ≤ x .state .counts .pops + 1
   unfolding step
-  pops-step s = go (eqb i none)
+  pops-step x = go (eqb i none)
     where
       i : ℕ
-      i = leastIn (t .places) (s .work)
+      i = leastIn (t .places) (x .state .work)
 
-      go : (b : Bool) → (cond b (stepping s (Ends Emptied)) (visited f t (popped f t s i) i)) .state .counts .pops ≤ s .counts .pops + 1
+      next : Searching
+      next = watched x (popped f t (x .state) i) (fAt (x .state .work) i)
+
+      go : (b : Bool) → (cond b (turning x (Ends Emptied)) (visited f t next i)) .search .state .counts .pops ≤ x .state .counts .pops + 1
       go true = omega arith
-      go false = omega (arith, pops-visited (popped f t s i) i, pops-popped s i)
+      go false = omega (arith, pops-visited next i, pops-next x i (fAt (x .state .work) i))

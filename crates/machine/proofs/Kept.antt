@@ -29,7 +29,7 @@ use Rattle.queue.proofs.Queued.{put-other}
 use Rattle.machine.specs.declared.Task.{Task}
 use Rattle.machine.specs.declared.Counts.{Counts}
 use Rattle.machine.specs.declared.Origin.{Origin}
-use Rattle.machine.specs.declared.Finish.the-variants.{Arrived, Emptied, Filled, Stopped}
+use Rattle.machine.specs.declared.Finish.the-variants.{Arrived, Emptied, Filled, Stopped, Crowded}
 use Rattle.machine.specs.declared.Outcome.{Outcome}
 use Rattle.machine.specs.declared.Outcome.the-variants.{Goes, Ends}
 use Rattle.places.specs.Layout.{floatsPerPlace, wordsPerPlace, polygonCell, seedKind, Work, workOf, wordAt, nodeIn, nodeAt, stepAt, parentAt, depthAt}
@@ -116,6 +116,7 @@ module _ (plan vs ps : List ℕ) (t : Task) (seed : Node) where
         held = λ i l. held i (rw taken at l) (h .held i (rw taken at l));
         entered = λ i z l. entered i (rw taken at l) (h .entered i z (rw taken at l));
         no-nan = λ i l q. rw (f-same floats (s .work .floats) i (same i)) (h .no-nan i l q);
+        no-minus = λ i l q. rw (f-same floats (s .work .floats) i (same i)) (h .no-minus i l q);
       }
 
   pub sound-recorded : (s : State) (node : Node) → Sound plan vs ps t seed s → s .counts .records < s .counts .taken
@@ -139,9 +140,9 @@ module _ (plan vs ps : List ℕ) (t : Task) (seed : Node) where
 
   pub sound-queued : (s : State) (c : Counts) (i : ℕ) (b : Bool) → Sound plan vs ps t seed s → c .taken ≡ s .counts .taken
       → c .records ≡ s .counts .records
-      → i < s .counts .taken → T (not (isNan (fAt (s .work) i)))
+      → i < s .counts .taken → T (not (isNan (fAt (s .work) i))) → T (isPlus (fAt (s .work) i))
       → Sound plan vs ps t seed (stateOf (putQueued n (s .work) i b) c)
-  sound-queued s c i b h taken records low number = record {
+  sound-queued s c i b h taken records low number plus = record {
     fit = fit-queued t s c i b (h .fit) taken records low;
     some = rw taken (h .some);
     taken-in = rw taken (h .taken-in);
@@ -152,17 +153,19 @@ module _ (plan vs ps : List ℕ) (t : Task) (seed : Node) where
         (h .held j (rw taken at l));
     entered = λ j z l. entered-kept (putQueued n (s .work) i b) (s .work) (s .counts .taken) (λ i l k b. refl) (λ i l k b. refl) (λ i l. refl) j
         (rw taken at l) (h .entered j z (rw taken at l));
-    no-nan = λ j l q. queued-number j l (which i j) (sym (put-queued n (s .work) i b few j l) ∙ q);
+    no-nan = λ j l q. queued-has (λ v. T (not (isNan v))) number (h .no-nan) j l (which i j) (sym (put-queued n (s .work) i b few j l) ∙ q);
+    no-minus = λ j l q. queued-has (λ v. T (isPlus v)) plus (h .no-minus) j l (which i j) (sym (put-queued n (s .work) i b few j l) ∙ q);
   }
     where
       few : n ≤ none
       few = omega (arith, h .fit .room .few)
 
-      queued-number : (j : ℕ) → j < n → (j < i) ⊎ ((j ≡ i) ⊎ (i < j)) → put (isQueued n (s .work)) i b j ≡ true
-          → T (not (isNan (fAt (s .work) j)))
-      queued-number j l (inl d) q = h .no-nan j l (sym (put-other (isQueued n (s .work)) i b j (λ e. omega arith)) ∙ q)
-      queued-number j l (inr (inl e)) q = subst (λ (m : ℕ). T (not (isNan (fAt (s .work) m)))) (sym e) number
-      queued-number j l (inr (inr d)) q = h .no-nan j l (sym (put-other (isQueued n (s .work)) i b j (λ e. omega arith)) ∙ q)
+      -- what i has, and each place that was queued, has each that is
+      queued-has : (P : Float → Type 0) → P (fAt (s .work) i) → ((j : ℕ) → j < n → isQueued n (s .work) j ≡ true → P (fAt (s .work) j))
+          → (j : ℕ) → j < n → (j < i) ⊎ ((j ≡ i) ⊎ (i < j)) → put (isQueued n (s .work)) i b j ≡ true → P (fAt (s .work) j)
+      queued-has P own had j l (inl d) q = had j l (sym (put-other (isQueued n (s .work)) i b j (λ e. omega arith)) ∙ q)
+      queued-has P own had j l (inr (inl e)) q = subst (λ (m : ℕ). P (fAt (s .work) m)) (sym e) own
+      queued-has P own had j l (inr (inr d)) q = had j l (sym (put-other (isQueued n (s .work)) i b j (λ e. omega arith)) ∙ q)
 
   -- ---- what stays when more is put
 
@@ -374,6 +377,7 @@ module _ (plan vs ps : List ℕ) (t : Task) (seed : Node) where
         held = λ j l. held-at j l (which i j);
         entered = λ j z l. entered-at j z l (which i j);
         no-nan = λ j l q. rw (f-below j (h .fit .queue .below j l q)) (h .no-nan j l q);
+        no-minus = λ j l q. rw (f-below j (h .fit .queue .below j l q)) (h .no-minus j l q);
       }
         where
           held-at : (j : ℕ) → j < i + 1 → (j < i) ⊎ ((j ≡ i) ⊎ (i < j)) → Held plan vs ps new j
@@ -406,15 +410,15 @@ module _ (plan vs ps : List ℕ) (t : Task) (seed : Node) where
       unfolding search.placed
       f-down = f-same (recorded-down .work .floats) (put-down .work .floats) i (recorded-floats put-down node i) ∙ its-f
 
-      pub sound-taken : T (not (isNan value)) → Sound plan vs ps t seed (search.taken n s o kind node value)
+      pub sound-taken : T (not (isNan value)) → T (isPlus value) → Sound plan vs ps t seed (search.taken n s o kind node value)
       unfolding search.taken search.kept search.queued
-      sound-taken number = go (search.isBeaten put-down node)
+      sound-taken number plus = go (search.isBeaten put-down node)
         where
           go : (b : Bool) → Sound plan vs ps t seed (cond b put-down (stateOf (putQueued n (recorded-down .work) i true) (recorded-down .counts)))
           go true = sound-placed
           go false =
               sound-queued recorded-down (recorded-down .counts) i true (sound-recorded put-down node sound-placed records-left) refl refl
-              (rw (recorded-taken put-down node, taken-down) (omega arith)) (rw f-down number)
+              (rw (recorded-taken put-down node, taken-down) (omega arith)) (rw f-down number) (rw f-down plus)
 
       grows-placed : Grows s put-down
       unfolding search.placed tookPlace
@@ -520,7 +524,8 @@ module _ (plan vs ps : List ℕ) (t : Task) (seed : Node) where
             let space = leb-false n (s .counts .taken) z in
             let plus = node-plus s o step value' h from permitted space in
             record {
-              sound = sound-taken s o step value' h from permitted space (add-no-nan binary32 _ _ plus (heuristic-plus _ _ _) (no _ x) (no _ y));
+              sound = sound-taken s o step value' h from permitted space (add-no-nan binary32 _ _ plus (heuristic-plus _ _ _) (no _ x) (no _ y))
+                  (add-plus binary32 _ _ plus (heuristic-plus _ _ _));
               grows = grows-taken s o step value' h from permitted space;
               numbered = numbered-taken s o step value' h from permitted space (made-self (f .vertices) (o .node) step x);
             }
@@ -563,6 +568,7 @@ module _ (plan vs ps : List ℕ) (t : Task) (seed : Node) where
     Arrives s (Ends Emptied) = Unit {0}
     Arrives s (Ends Filled) = Unit {0}
     Arrives s (Ends Stopped) = Unit {0}
+    Arrives s (Ends Crowded) = Unit {0}
     Arrives s Goes = Unit {0}
 
     pub record Steps (after : search.Stepping) : Type 0 where
@@ -576,14 +582,14 @@ module _ (plan vs ps : List ℕ) (t : Task) (seed : Node) where
         go true = record { sound = h; arrives = tt }
         go false = record { sound = h; arrives = tt }
 
-    own-steps : (s : State) (i : ℕ) (x : Step) → x ∈ stepsFrom f (t .trip .to) (nodeAt (s .work) i)
+    pub own-steps : (s : State) (i : ℕ) (x : Step) → x ∈ stepsFrom f (t .trip .to) (nodeAt (s .work) i)
         → x ∈ stepsFrom f (t .trip .to) (search.originAt (s .work) i .node)
     unfolding search.originAt
     own-steps s i x m = m
 
-    pub sound-visited : (s : State) (i : ℕ) → Sound plan vs ps t seed s → i < s .counts .taken → Steps (search.visited f t s i)
-    unfolding search.visited
-    sound-visited s i h l = go (search.isBeaten s (nodeAt (s .work) i)) (isInGoal (t .trip .to) (nodeAt (s .work) i)) refl
+    pub sound-pursued : (s : State) (i : ℕ) → Sound plan vs ps t seed s → i < s .counts .taken → Steps (search.pursued f t s i)
+    unfolding search.pursued
+    sound-pursued s i h l = go (isInGoal (t .trip .to) (nodeAt (s .work) i)) refl
       where
         o : Origin
         o = search.originAt (s .work) i
@@ -591,11 +597,10 @@ module _ (plan vs ps : List ℕ) (t : Task) (seed : Node) where
         steps : List Step
         steps = stepsFrom f (t .trip .to) (nodeAt (s .work) i)
 
-        go : (a b : Bool) → isInGoal (t .trip .to) (nodeAt (s .work) i) ≡ b
-            → Steps (cond a (search.stepping s Goes) (cond b (search.stepping s (Ends (Arrived i))) (search.afterMaking f t (search.madeAll f t s o steps))))
-        go true b e = record { sound = h; arrives = tt }
-        go false true e = record { sound = h; arrives = (l, e) }
-        go false false e = after-making (search.madeAll f t s o steps) (sound-made-all steps s o h (origin-of s i l) (own-steps s i) .sound)
+        go : (b : Bool) → isInGoal (t .trip .to) (nodeAt (s .work) i) ≡ b
+            → Steps (cond b (search.stepping s (Ends (Arrived i))) (search.afterMaking f t (search.madeAll f t s o steps)))
+        go true e = record { sound = h; arrives = (l, e) }
+        go false e = after-making (search.madeAll f t s o steps) (sound-made-all steps s o h (origin-of s i l) (own-steps s i) .sound)
 
     -- the place that is popped is one that is queued, and so taken
     pub popped-queued : (s : State) → Sound plan vs ps t seed s → eqb (leastIn n (s .work)) none ≡ false
@@ -612,8 +617,9 @@ module _ (plan vs ps : List ℕ) (t : Task) (seed : Node) where
     sound-popped s h e =
         let q = popped-queued s h e in
         sound-queued s (counted (s .counts)) (leastIn n (s .work)) false h refl refl (popped-taken s h e) (h .no-nan (leastIn n (s .work)) (q .0) (q .1))
+        (h .no-minus (leastIn n (s .work)) (q .0) (q .1))
 
-    popped-below : (s : State) → Sound plan vs ps t seed s → eqb (leastIn n (s .work)) none ≡ false
+    pub popped-below : (s : State) → Sound plan vs ps t seed s → eqb (leastIn n (s .work)) none ≡ false
         → leastIn n (s .work) < search.popped f t s (leastIn n (s .work)) .counts .taken
     unfolding search.popped counted
     popped-below = popped-taken
@@ -627,9 +633,9 @@ module _ (plan vs ps : List ℕ) (t : Task) (seed : Node) where
         go true = h
         go false = h
 
-    numbered-visited : (s : State) (i : ℕ) → Sound plan vs ps t seed s → i < s .counts .taken → Numbered s → Numbered (search.visited f t s i .state)
-    unfolding search.visited
-    numbered-visited s i h l numbered = go (search.isBeaten s (nodeAt (s .work) i)) (isInGoal (t .trip .to) (nodeAt (s .work) i))
+    pub numbered-pursued : (s : State) (i : ℕ) → Sound plan vs ps t seed s → i < s .counts .taken → Numbered s → Numbered (search.pursued f t s i .state)
+    unfolding search.pursued
+    numbered-pursued s i h l numbered = go (isInGoal (t .trip .to) (nodeAt (s .work) i))
       where
         o : Origin
         o = search.originAt (s .work) i
@@ -640,64 +646,10 @@ module _ (plan vs ps : List ℕ) (t : Task) (seed : Node) where
         made' : search.Making
         made' = search.madeAll f t s o steps
 
-        go : (a b : Bool)
-            → Numbered ((cond a (search.stepping s Goes) (cond b (search.stepping s (Ends (Arrived i))) (search.afterMaking f t made'))) .state)
-        go true b = numbered
-        go false true = numbered
-        go false false = numbered-after made' (sound-made-all steps s o h (origin-of s i l) (own-steps s i) .numbered numbered)
+        go : (b : Bool) → Numbered ((cond b (search.stepping s (Ends (Arrived i))) (search.afterMaking f t made')) .state)
+        go true = numbered
+        go false = numbered-after made' (sound-made-all steps s o h (origin-of s i l) (own-steps s i) .numbered numbered)
 
     pub numbered-popped : (s : State) (i : ℕ) → Numbered s → Numbered (search.popped f t s i)
     unfolding search.popped counted
     numbered-popped s i numbered j l = let m = numbered j l in record { found = m .found; low = m .low }
-
-    pub numbered-step : (s : State) → Sound plan vs ps t seed s → Numbered s → Numbered (search.step f t s .state)
-    unfolding search.step
-    numbered-step s h numbered = go (eqb (leastIn n (s .work)) none) refl
-      where
-        least : ℕ
-        least = leastIn n (s .work)
-
-        next : State
-        next = search.popped f t s least
-
-        go : (b : Bool) → eqb least none ≡ b → Numbered ((cond b (search.stepping s (Ends Emptied)) (search.visited f t next least)) .state)
-        go true e = numbered
-        go false e = numbered-visited next least (sound-popped s h e) (popped-below s h e) (numbered-popped s least numbered)
-
-    -- ---- a step goes on
-
-    pub sound-step : (s : State) → Sound plan vs ps t seed s → Steps (search.step f t s)
-    unfolding search.step
-    sound-step s h = go (eqb (leastIn n (s .work)) none) refl
-      where
-        least : ℕ
-        least = leastIn n (s .work)
-
-        next : State
-        next = search.popped f t s least
-
-        go : (b : Bool) → eqb least none ≡ b → Steps (cond b (search.stepping s (Ends Emptied)) (search.visited f t next least))
-        go true e = record { sound = h; arrives = tt }
-        go false e = sound-visited next least (sound-popped s h e) (popped-below s h e)
-
-    -- ---- a run
-
-    -- a search that has ended
-    pub record Finishes (e : search.Ending) : Type 0 where
-      pub sound : Sound plan vs ps t seed (e .state)
-      pub arrives : Arrives (e .state) (Ends (e .finish))
-
-    pub sound-run : (budget : ℕ) (s : State) → Sound plan vs ps t seed s → Finishes (search.run f t budget s)
-    unfolding search.run
-    sound-run zero s h = go (eqb (leastIn n (s .work)) none)
-      where
-        go : (b : Bool) → Finishes (cond b (search.ending s Emptied) (search.ending s Stopped))
-        go true = record { sound = h; arrives = tt }
-        go false = record { sound = h; arrives = tt }
-    sound-run (suc budget) s h = go (search.step f t s .outcome) (sound-step s h .arrives) (sound-step s h .sound) (sound-run budget)
-      where
-        go : (o : Outcome) → Arrives (search.step f t s .state) o → Sound plan vs ps t seed (search.step f t s .state)
-            → ((u : State) → Sound plan vs ps t seed u → Finishes (search.run f t budget u))
-            → Finishes (search.onwards f t (search.step f t s .state) o (search.run f t budget))
-        go Goes a h next = next (search.step f t s .state) h
-        go (Ends finish) a h next = record { sound = h; arrives = a }

@@ -21,7 +21,8 @@ use Rattle.queue.specs.Queue.{Tree, NoNan}
 use Rattle.machine.specs.declared.Task.{Task}
 use Rattle.machine.specs.declared.Origin.{Origin}
 use Rattle.places.specs.Layout.{mostPlaces, Work, Room, nodeAt, stepAt, parentAt, depthAt, numberAt, fAt, isQueued, recordFor}
-use Rattle.machine.specs.Search.{State}
+use Rattle.seen.specs.Kept.{Records}
+use Rattle.machine.specs.Search.{State, Searching, patience}
 
 -- a float without a minus sign, or NaN
 abbrev pub isPlus : Float → Bool
@@ -81,6 +82,7 @@ pub record Sound (plan vertices polygons : List ℕ) (t : Task) (seed : Node) (s
   pub held : (i : ℕ) → i < s .counts .taken → Held plan vertices polygons (s .work) i
   pub entered : (i : ℕ) → 0 < i → i < s .counts .taken → Entered (floorIn plan vertices polygons) t (s .work) i
   pub no-nan : NoNan (fAt (s .work)) (t .places) (isQueued (t .places) (s .work))
+  pub no-minus : (i : ℕ) → i < t .places → isQueued (t .places) (s .work) i ≡ true → T (isPlus (fAt (s .work) i))
 
 -- ---- distances on record
 
@@ -98,6 +100,17 @@ pub record SoundFrom (plan vertices polygons : List ℕ) (t : Task) (s : State) 
   pub seed : Node
   pub sound : Sound plan vertices polygons t seed s
   pub numbered : Numbered s
+
+-- ---- a search under way
+
+-- before it records it has not been patient for too long, and when it records its table holds what it met since
+pub record Watches (x : Searching) : Type 0 where
+  pub patient : x .stall .recording ≡ false → x .stall .count ≤ patience
+  pub records : x .stall .recording ≡ true → Records (x .table)
+
+pub record SoundSearch (plan vertices polygons : List ℕ) (t : Task) (x : Searching) : Type 0 where
+  pub from : SoundFrom plan vertices polygons t (x .state)
+  pub watches : Watches x
 
 -- ---- where steps are made from
 

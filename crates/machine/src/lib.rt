@@ -16,6 +16,13 @@ pub struct Counts {
     pub pops: usize,
 }
 
+// "last_f, a count of pops since it last rose, and recording once that count is above 512."
+pub struct Stall {
+    pub last_f: f32,
+    pub count: u32,
+    pub recording: bool,
+}
+
 // Where steps are made from: a place, how many steps led to it, the number of its root's record, and its node.
 pub struct Origin {
     pub place: usize,
@@ -40,6 +47,8 @@ pub enum Finish {
     Filled,
     // The queue is not empty and the budget is spent.
     Stopped,
+    // A node needs an entry of the table and every one is used.
+    Crowded,
 }
 
 // What comes of a step.

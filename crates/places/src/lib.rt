@@ -4,8 +4,9 @@
 ghost use mathlib.Core.Path.{_≡_};
 ghost use Prim.Native.Nat.{_+_, _*_, _≤_, _<_, min};
 ghost use lib.ListN.{length};
-ghost use Rattle.places.specs.Layout.{floatsPerPlace, wordsPerPlace, workOf, placesIn, intervalIn, leftIn, nodeIn, kindOf, stepIn, parentIn, depthIn};
-ghost use Rattle.places.specs.Layout.{numberIn, putFloats, putWords, recordRoot, recordDistance, recordFor, recordPut, distancePut};
+ghost use Rattle.queue.specs.Words.{column};
+ghost use Rattle.places.specs.Layout.{fCell, floatsPerPlace, wordsPerPlace, workOf, placesIn, intervalIn, leftIn, nodeIn, kindOf, stepIn, parentIn};
+ghost use Rattle.places.specs.Layout.{depthIn, numberIn, putFloats, putWords, recordRoot, recordDistance, recordFor, recordPut, distancePut};
 use cut::SuccessorType;
 use point::Point;
 use point::Segment;
@@ -18,7 +19,7 @@ pub const FLOATS: usize = 11;
 pub const WORDS: usize = 8;
 
 // Words of the queue for a place.
-const QUEUE_WORDS: usize = 2;
+pub const QUEUE_WORDS: usize = 2;
 
 // The cell of a row of floats in which f stands.
 pub const F_AT: usize = 7;
@@ -172,6 +173,14 @@ pub fn step_at(floats: &[f32], words: &[u32], i: usize) -> Step
         second: words[row + 3],
         interval,
     }
+}
+
+// The f of the node at place i.
+pub fn f_at(floats: &[f32], i: usize) -> f32
+    requires { ⌜ (i + 1) * floatsPerPlace ≤ length (now floats) ⌝ }
+    ensures { λ r. ⌜ r ≡ column (now (floats .entry)) floatsPerPlace fCell i ⌝ }
+{
+    floats[i * FLOATS + F_AT]
 }
 
 // How many steps led to the node at place i.

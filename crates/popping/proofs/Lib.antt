@@ -1,3 +1,4 @@
 -- The laws of the pop loop.
+pub mod Watching
 pub mod Stepping
 pub mod Running

@@ -3,12 +3,18 @@
 use making::make_steps;
 use places::F_AT;
 ghost use mathlib.Core.Path.{_≡_};
-ghost use Prim.Native.Nat.{_+_, _≤_, _<_, _^_};
+ghost use mathlib.Core.Bool.{true, false};
+ghost use Prim.Native.Nat.{_+_, _*_, _≤_, _<_, _^_};
+ghost use lib.ListN.{length};
 ghost use Rattle.stored.specs.Stored.{Floor, floorIn};
 ghost use Rattle.edges.specs.Ground.{Ground};
-ghost use Rattle.places.specs.Layout.{workOf, Room};
-ghost use Rattle.steps.specs.Steps.{seedNode, stepsFrom};
-ghost use Rattle.machine.specs.Search.{stateOf, making, stepping, ending, visited, step, run, planted, begun, seedOrigin, madeAll, searchedFrom};
+ghost use Rattle.queue.specs.Queue.{none};
+ghost use Rattle.queue.specs.Words.{column};
+ghost use Rattle.places.specs.Layout.{floatsPerPlace, fCell, workOf, Room, leastIn};
+ghost use Rattle.seen.specs.Kept.{Records};
+ghost use Rattle.machine.specs.declared.Stall.{Stall};
+ghost use Rattle.machine.specs.Search.{stateOf, making, stepping, ending, searching, turning, restOf, restIn, originAt, pursued, popped, planted, outset};
+ghost use Rattle.machine.specs.Search.{patience, calm, noticed, tableAfter, visited, run, searchedFrom};
 ghost use Rattle.machine.specs.Sound.{Begins, SoundFrom};
 use machine::Counts;
 use machine::Ended;
@@ -16,11 +22,14 @@ use machine::Finish;
 use machine::Made;
 use machine::Origin;
 use machine::Outcome;
+use machine::Stall;
 use machine::Stepped;
 use machine::Task;
 use places::FLOATS;
+use places::QUEUE_WORDS;
 use places::SEED;
 use places::depth_at;
+use places::f_at;
 use places::node_at;
 use places::number_at;
 use places::put_floats;
@@ -29,50 +38,91 @@ use places::put_words;
 use places::record_distance;
 use plan::PLAN;
 use queue::NONE;
+use seen::Entry;
 use steps::Node;
 
-// Looks at the node that was popped: it is dropped, or it has arrived, or its steps are made. The number of its root's record
-// was kept with it.
-fn visit(
+// Pops since f last rose, above which the search records.
+const PATIENCE: u32 = 512;
+
+// Before the first pop: last_f is below every f.
+fn calm() -> Stall
+    ensures { λ r. ⌜ r ≡ calm ⌝ }
+{
+    Stall {
+        last_f: -(1.0f32 / 0.0f32),
+        count: 0,
+        recording: false,
+    }
+}
+
+// The pop of a node with this f: last_f and the count are brought up to date. While recording they stay.
+fn noticed(stall: Stall, f: f32) -> Stall
+    requires { ⌜ (stall .recording ≡ false → stall .count ≤ patience) ⌝ }
+    ensures { λ r. ⌜ r ≡ noticed stall f ⌝ }
+{
+    if stall.recording {
+        return stall;
+    }
+    if stall.last_f < f {
+        return Stall {
+            last_f: f,
+            count: 0,
+            recording: false,
+        };
+    }
+    let count = stall.count + 1;
+    Stall {
+        last_f: stall.last_f,
+        count,
+        recording: PATIENCE < count,
+    }
+}
+
+// The pop of place i is noticed, and the table is laid out where recording begins.
+fn watch(stall: Stall, floats: &[f32], i: usize, table: &mut [u32]) -> Stall
+    requires { ⌜ (stall .recording ≡ false → stall .count ≤ patience) × ((i + 1) * floatsPerPlace ≤ length (now floats)) ⌝ }
+    ensures { λ r. ⌜ r ≡ noticed stall (column (now (floats .entry)) floatsPerPlace fCell i) ⌝ }
+    ensures { λ r. ⌜ now (table .exit) ≡ tableAfter stall r (now (table .entry)) ⌝ }
+{
+    if stall.recording {
+        return stall;
+    }
+    let stall = noticed(stall, f_at(floats, i));
+    if stall.recording {
+        seen::lay_out(table);
+        return stall;
+    }
+    stall
+}
+
+// Looks at a node that is new: it has arrived, or its steps are made.
+fn pursue(
     vertices: &[u8],
     polygons: &[u8],
     plan: &[u32; PLAN],
     task: Task,
     counts: Counts,
-    i: usize,
+    from: Origin,
     floats: &mut [f32],
     words: &mut [u32],
     tree: &mut [u32],
 ) -> Stepped
     requires { ⌜ Ground (now plan) (now vertices) (now polygons) ⌝ }
     requires { ⌜ SoundFrom (now plan) (now vertices) (now polygons) task (stateOf (workOf (now floats) (now words) (now tree)) counts) ⌝ }
-    requires { ⌜ i < counts .taken ⌝ }
+    requires { ⌜ (from .place < counts .taken) × (from ≡ originAt (workOf (now floats) (now words) (now tree)) (from .place)) ⌝ }
     ensures { λ r.
         let f = floorIn (now (plan .entry)) (now (vertices .entry)) (now (polygons .entry)) in
         let before = stateOf (workOf (now (floats .entry)) (now (words .entry)) (now (tree .entry))) counts in
         let after = stateOf (workOf (now (floats .exit)) (now (words .exit)) (now (tree .exit))) (r .counts) in
-        ⌜ stepping after (r .outcome) ≡ visited f task before i ⌝ }
+        ⌜ stepping after (r .outcome) ≡ pursued f task before (from .place) ⌝ }
 {
-    let node = node_at(floats, words, i);
-    let number = number_at(words, i) as usize;
-    if record_distance(floats, number) < node.length {
-        return Stepped {
-            counts,
-            outcome: Outcome::Goes,
-        };
-    }
+    let node = from.node;
     if node.polygon == task.trip.to {
         return Stepped {
             counts,
-            outcome: Outcome::Ends(Finish::Arrived(i)),
+            outcome: Outcome::Ends(Finish::Arrived(from.place)),
         };
     }
-    let from = Origin {
-        place: i,
-        depth: depth_at(words, i),
-        number,
-        node,
-    };
     let made = make_steps(
         vertices,
         polygons,
@@ -97,34 +147,96 @@ fn visit(
     }
 }
 
-// A step: pops the least node, counts one, and looks at it.
-fn turn(
+// Looks at the node that was popped: it is dropped, or no entry is left for it, or the search goes on from it. The number of its
+// root's record was kept with it.
+fn visit(
     vertices: &[u8],
     polygons: &[u8],
     plan: &[u32; PLAN],
     task: Task,
     counts: Counts,
+    recording: bool,
+    i: usize,
     floats: &mut [f32],
     words: &mut [u32],
     tree: &mut [u32],
+    table: &mut [u32],
 ) -> Stepped
     requires { ⌜ Ground (now plan) (now vertices) (now polygons) ⌝ }
     requires { ⌜ SoundFrom (now plan) (now vertices) (now polygons) task (stateOf (workOf (now floats) (now words) (now tree)) counts) ⌝ }
-    requires { ⌜ counts .pops + 1 < 2 ^ 64 ⌝ }
+    requires { ⌜ (i < counts .taken) × (recording ≡ true → Records (now table)) ⌝ }
     ensures { λ r.
         let f = floorIn (now (plan .entry)) (now (vertices .entry)) (now (polygons .entry)) in
         let before = stateOf (workOf (now (floats .entry)) (now (words .entry)) (now (tree .entry))) counts in
         let after = stateOf (workOf (now (floats .exit)) (now (words .exit)) (now (tree .exit))) (r .counts) in
-        ⌜ stepping after (r .outcome) ≡ step f task before ⌝ }
+        ⌜ ((stall : Stall) → stall .recording ≡ recording
+        → turning (searching after stall (now (table .exit))) (r .outcome) ≡ visited f task (searching before stall (now (table .entry))) i) ⌝ }
 {
-    let least = queue::least(tree);
-    if least == NONE {
+    let node = node_at(floats, words, i);
+    let number = number_at(words, i) as usize;
+    if record_distance(floats, number) < node.length {
         return Stepped {
             counts,
-            outcome: Outcome::Ends(Finish::Emptied),
+            outcome: Outcome::Goes,
         };
     }
-    let i = least as usize;
+    match seen::remember(recording, table, node) {
+        Entry::Seen => Stepped {
+            counts,
+            outcome: Outcome::Goes,
+        },
+        Entry::NoRoom => Stepped {
+            counts,
+            outcome: Outcome::Ends(Finish::Crowded),
+        },
+        Entry::New => {
+            let from = Origin {
+                place: i,
+                depth: depth_at(words, i),
+                number,
+                node,
+            };
+            pursue(
+                vertices,
+                polygons,
+                plan,
+                task,
+                counts,
+                from,
+                floats,
+                words,
+                tree,
+            )
+        }
+    }
+}
+
+// Takes the least place out of the queue, counts one, and looks at it.
+fn pop(
+    vertices: &[u8],
+    polygons: &[u8],
+    plan: &[u32; PLAN],
+    task: Task,
+    counts: Counts,
+    recording: bool,
+    i: usize,
+    floats: &mut [f32],
+    words: &mut [u32],
+    tree: &mut [u32],
+    table: &mut [u32],
+) -> Stepped
+    requires { ⌜ Ground (now plan) (now vertices) (now polygons) ⌝ }
+    requires { ⌜ SoundFrom (now plan) (now vertices) (now polygons) task (stateOf (workOf (now floats) (now words) (now tree)) counts) ⌝ }
+    requires { ⌜ (i ≡ leastIn (task .places) (workOf (now floats) (now words) (now tree))) × (i ≡ none → ⊥) ⌝ }
+    requires { ⌜ (recording ≡ true → Records (now table)) × (counts .pops + 1 < 2 ^ 64) ⌝ }
+    ensures { λ r.
+        let f = floorIn (now (plan .entry)) (now (vertices .entry)) (now (polygons .entry)) in
+        let before = stateOf (workOf (now (floats .entry)) (now (words .entry)) (now (tree .entry))) counts in
+        let after = stateOf (workOf (now (floats .exit)) (now (words .exit)) (now (tree .exit))) (r .counts) in
+        let without = popped f task before i in
+        ⌜ ((stall : Stall) → stall .recording ≡ recording
+        → turning (searching after stall (now (table .exit))) (r .outcome) ≡ visited f task (searching without stall (now (table .entry))) i) ⌝ }
+{
     queue::remove(tree, floats, FLOATS, F_AT, task.places, i);
     let counts = Counts {
         taken: counts.taken,
@@ -137,14 +249,17 @@ fn turn(
         plan,
         task,
         counts,
+        recording,
         i,
         floats,
         words,
         tree,
+        table,
     )
 }
 
-// Steps until the search ends, or the budget is spent.
+// Steps until the search ends, or the budget is spent. A step pops the least node. The stall is known here alone: who looks at a node
+// only asks whether the search records.
 fn run(
     vertices: &[u8],
     polygons: &[u8],
@@ -155,6 +270,7 @@ fn run(
     floats: &mut [f32],
     words: &mut [u32],
     tree: &mut [u32],
+    table: &mut [u32],
 ) -> Ended
     requires { ⌜ Ground (now plan) (now vertices) (now polygons) ⌝ }
     requires { ⌜ SoundFrom (now plan) (now vertices) (now polygons) task (stateOf (workOf (now floats) (now words) (now tree)) counts) ⌝ }
@@ -163,12 +279,35 @@ fn run(
         let f = floorIn (now (plan .entry)) (now (vertices .entry)) (now (polygons .entry)) in
         let before = stateOf (workOf (now (floats .entry)) (now (words .entry)) (now (tree .entry))) counts in
         let after = stateOf (workOf (now (floats .exit)) (now (words .exit)) (now (tree .exit))) (r .counts) in
-        ⌜ ending after (r .finish) ≡ run f task budget before ⌝ }
+        ⌜ restOf (ending after (r .finish)) (now (table .exit)) ≡ restIn (run f task budget (searching before calm (now (table .entry)))) ⌝ }
 {
     let mut counts = counts;
+    let mut stall = calm();
     let mut left = budget;
     while 0 < left {
-        let stepped = turn(vertices, polygons, plan, task, counts, floats, words, tree);
+        let least = queue::least(tree);
+        if least == NONE {
+            return Ended {
+                counts,
+                finish: Finish::Emptied,
+            };
+        }
+        let i = least as usize;
+        stall = watch(stall, floats, i, table);
+        let recording = stall.recording;
+        let stepped = pop(
+            vertices,
+            polygons,
+            plan,
+            task,
+            counts,
+            recording,
+            i,
+            floats,
+            words,
+            tree,
+            table,
+        );
         counts = stepped.counts;
         let outcome = stepped.outcome;
         if let Outcome::Ends(finish) = outcome {
@@ -196,7 +335,7 @@ fn plant(task: Task, seed: Node, floats: &mut [f32], words: &mut [u32], tree: &m
         let after = workOf (now (floats .exit)) (now (words .exit)) (now (tree .exit)) in
         ⌜ ((f : Floor) → after ≡ planted f task seed before) ⌝ }
 {
-    queue::clear(tree, task.places);
+    queue::clear(tree, QUEUE_WORDS * task.places);
     put_floats(floats, 0, seed, 0.0);
     put_words(words, 0, SEED, seed, 0, 0, 0);
     put_record(floats, 0, seed.root, 0.0);
@@ -218,8 +357,7 @@ fn set_out(
         let f = floorIn (now (plan .entry)) (now (vertices .entry)) (now (polygons .entry)) in
         let before = workOf (now (floats .entry)) (now (words .entry)) (now (tree .entry)) in
         let after = stateOf (workOf (now (floats .exit)) (now (words .exit)) (now (tree .exit))) (r .counts) in
-        let seed = seedNode (task .trip .start) (task .trip .from) in
-        ⌜ making after (r .full) ≡ madeAll f task (begun f task seed before) (seedOrigin f task seed) (stepsFrom f (task .trip .to) seed) ⌝ }
+        ⌜ making after (r .full) ≡ outset f task before ⌝ }
 {
     let trip = task.trip;
     let seed = Node::seed(trip.start, trip.from);
@@ -258,13 +396,14 @@ pub fn search_from(
     floats: &mut [f32],
     words: &mut [u32],
     tree: &mut [u32],
+    table: &mut [u32],
 ) -> Ended
     requires { ⌜ Begins (now plan) (now vertices) (now polygons) task (workOf (now floats) (now words) (now tree)) ⌝ }
     ensures { λ r.
         let f = floorIn (now (plan .entry)) (now (vertices .entry)) (now (polygons .entry)) in
         let before = workOf (now (floats .entry)) (now (words .entry)) (now (tree .entry)) in
         let after = stateOf (workOf (now (floats .exit)) (now (words .exit)) (now (tree .exit))) (r .counts) in
-        ⌜ ending after (r .finish) ≡ searchedFrom f task budget before ⌝ }
+        ⌜ restOf (ending after (r .finish)) (now (table .exit)) ≡ restIn (searchedFrom f task budget before (now (table .entry))) ⌝ }
 {
     let made = set_out(vertices, polygons, plan, task, floats, words, tree);
     let counts = made.counts;
@@ -284,5 +423,6 @@ pub fn search_from(
         floats,
         words,
         tree,
+        table,
     )
 }

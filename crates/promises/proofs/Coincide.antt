@@ -59,16 +59,30 @@ triple : {Z U W : Type 0} {z y : Z} {u v : U} {s t : W} → z ≡ y → u ≡ v 
 triple h k l = rw (h, k, l)
 
 abbrev seenOf : Searched → SeenOfSearch
-seenOf s = (s .answer, s .work .floats, s .work .words, s .work .queue, s .out)
+seenOf s = (s .answer, s .lent .work .floats, s .lent .work .words, s .lent .work .queue, s .lent .table, s .out)
 
 -- ---- the search
 
 pub search-coincides : Coincide {S = SeenOfSearch} search.Post
-    (λ z e. (z, e .1 .1 .1 .1 .0 .now, e .1 .1 .1 .1 .1 .0 .now, e .1 .1 .1 .1 .1 .1 .0 .now, e .1 .1 .1 .1 .1 .1 .1 .0 .now))
+    (λ z e. (
+      z,
+      e .1 .1 .1 .1 .0 .now,
+      e .1 .1 .1 .1 .1 .0 .now,
+      e .1 .1 .1 .1 .1 .1 .0 .now,
+      e .1 .1 .1 .1 .1 .1 .1 .0 .now,
+      e .1 .1 .1 .1 .1 .1 .1 .1 .0 .now,
+    ))
 search-coincides κs a z y e f p q = ap seenOf (p ∙ sym q)
 
 pub search-default-coincides : Coincide {S = SeenOfSearch} search-default.Post
-    (λ z e. (z, e .1 .1 .1 .0 .now, e .1 .1 .1 .1 .0 .now, e .1 .1 .1 .1 .1 .0 .now, e .1 .1 .1 .1 .1 .1 .0 .now))
+    (λ z e. (
+      z,
+      e .1 .1 .1 .0 .now,
+      e .1 .1 .1 .1 .0 .now,
+      e .1 .1 .1 .1 .1 .0 .now,
+      e .1 .1 .1 .1 .1 .1 .0 .now,
+      e .1 .1 .1 .1 .1 .1 .1 .0 .now,
+    ))
 search-default-coincides κs a z y e f p q = ap seenOf (p ∙ sym q)
 
 pub places-in-coincides : Coincide places-in.Post (λ z e. z)
@@ -125,7 +139,7 @@ pub cart-words-coincides : Coincide {S = ℕ × List ℕ} cart-words.Post (λ z 
 cart-words-coincides κs a z y e f p q = pair (p .0 ∙ sym (q .0)) (p .1 ∙ sym (q .1))
 
 abbrev seenInC : Handed → SeenInC
-seenInC h = (h .number, h .work .floats, h .work .words, h .work .queue, h .out, h .steps, h .value)
+seenInC h = (h .number, h .lent .work .floats, h .lent .work .words, h .lent .work .queue, h .lent .table, h .out, h .steps, h .value)
 
 pub cart-search-coincides : Coincide {S = SeenInC} cart-search.Post
     (λ z e. (
@@ -136,6 +150,7 @@ pub cart-search-coincides : Coincide {S = SeenInC} cart-search.Post
       e .1 .1 .1 .1 .1 .1 .1 .0 .now,
       e .1 .1 .1 .1 .1 .1 .1 .1 .0 .now,
       e .1 .1 .1 .1 .1 .1 .1 .1 .1 .0 .now,
+      e .1 .1 .1 .1 .1 .1 .1 .1 .1 .1 .0 .now,
     ))
 cart-search-coincides κs a z y e f p q = ap seenInC (p ∙ sym q)
 

@@ -20,28 +20,36 @@ use Rattle.steps.specs.declared.Trip.{Trip}
 use Rattle.steps.specs.Steps.{seedNode}
 use Rattle.machine.specs.declared.Task.{Task}
 use Rattle.places.specs.Layout.{Work, Room, placesIn}
-use Rattle.machine.specs.Search.{Ending, searchedFrom}
-use Rattle.machine.proofs.Kept.{Finishes}
+use Rattle.machine.specs.Search.{Close, Rest, restIn, searchedFrom}
+use Rattle.machine.proofs.Turning.{Finishes}
 use Rattle.machine.proofs.Begun.{sound-searched}
+use Rattle.search.specs.Whole.{Lent}
 
 abbrev pub taskFor : Trip → Work → Task
 taskFor trip w = record { trip = trip; places = placesIn w }
 
-abbrev pub endFor : Floor → Trip → ℕ → Work → Ending
-endFor f trip budget w = searchedFrom f (taskFor trip w) budget w
+abbrev pub closeFor : Floor → Trip → ℕ → Lent → Close
+closeFor f trip budget lent = searchedFrom f (taskFor trip (lent .work)) budget (lent .work) (lent .table)
+
+-- what is left of it for who lent the buffers
+abbrev pub restFor : Floor → Trip → ℕ → Lent → Rest
+restFor f trip budget lent = restIn (closeFor f trip budget lent)
 
 module _ (w : Work) (places : eqb (placesIn w) 0 ≡ false) where
   pub at-least-one : 1 ≤ placesIn w
   at-least-one = let no-zero = eqb-false (placesIn w) 0 places in omega arith
 
   -- every place has a row in each buffer
-  room : Room (placesIn w) w
+  pub room : Room (placesIn w) w
   unfolding placesIn
   room = record { floats-room = omega arith; words-room = omega arith; queue-room = omega arith; few = omega arith }
 
-  pub sound-end : {plan vs ps : List ℕ} (g : Ground plan vs ps) (trip : Trip) → trip .from < polygonCountIn plan → (budget : ℕ)
-      → Finishes plan vs ps (taskFor trip w) (seedNode (trip .start) (trip .from)) g (endFor (floorIn plan vs ps) trip budget w)
-  sound-end {plan} {vs} {ps} g trip listed budget = sound-searched plan vs ps (taskFor trip w) g listed w room at-least-one budget
+pub sound-end : (lent : Lent) → eqb (placesIn (lent .work)) 0 ≡ false → {plan vs ps : List ℕ} (g : Ground plan vs ps) (trip : Trip)
+    → trip .from < polygonCountIn plan → (budget : ℕ)
+    → Finishes plan vs ps (taskFor trip (lent .work)) (seedNode (trip .start) (trip .from)) g (closeFor (floorIn plan vs ps) trip budget lent)
+sound-end lent places {plan} {vs} {ps} g trip listed budget =
+    let w = lent .work in
+    sound-searched plan vs ps (taskFor trip w) g listed w (room w places) (at-least-one w places) budget (lent .table)
 
 -- ---- the ground of a floor on which a look finds start and goal
 

@@ -5,4 +5,5 @@ pub mod Budget
 pub mod Refusals
 pub mod Room
 pub mod Points
+pub mod Stalls
 pub mod Coincide

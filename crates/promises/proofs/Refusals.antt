@@ -1,5 +1,5 @@
--- "Other than 0, nothing in the output changes": neither the search's output nor the read-out's points. "Up to 10 the work buffers stay too." First
--- of the definitions (specs/Promises), then of the contracts themselves (specs/Permits; `Post` is what a contract permits). Assumes nothing.
+-- "Other than 0, nothing in the output changes": neither the search's output nor the read-out's points. "Up to 10 the work buffers stay too", and the table.
+-- First of the definitions (specs/Promises), then of the contracts themselves (specs/Permits; `Post` is what a contract permits). Assumes nothing.
 use Prim.Native.Nat.{ℕ, _*_}
 use mathlib.Core.Path.{_≡_, refl, ap, _∙_}
 use mathlib.Core.Bool.{Bool, true, false, cond}
@@ -22,9 +22,8 @@ use Rattle.judge.specs.Verdict.{verdictOf}
 use Rattle.readout.specs.Readout.{floatsOf, listed, listing, answerIf, outIf, routePoints, readoutOf, writtenOf, readoutTold, readoutNumber}
 use Rattle.readout.proofs.read_out.Reads as read-out
 use Rattle.cart_c.proofs.cart_read_out.Reads as cart-read-out
-use Rattle.places.specs.Layout.{Work}
 use Rattle.writing.specs.Answers.{answerTold, answerNumber}
-use Rattle.search.specs.Whole.{Searched, routed, betweenOf, searchOf}
+use Rattle.search.specs.Whole.{Lent, Searched, routed, betweenOf, searchOf}
 use Rattle.search.proofs.search.Reads as search
 use Rattle.search.proofs.search_default.Reads as search-default
 use Rattle.promises.specs.Promises.{TellsTheSame, without, with-route, Route}
@@ -34,19 +33,19 @@ use Rattle.promises.proofs.Output.{search-tells, route-fits, route-lack
 
 -- ---- the output
 
-pub refusal-leaves-output : (s : ℕ) (vs ps question : List ℕ) (budget : ℕ) (w : Work) → RefusalLeavesOutput s vs ps question budget w
+pub refusal-leaves-output : (s : ℕ) (vs ps question : List ℕ) (budget : ℕ) (lent : Lent) → RefusalLeavesOutput s vs ps question budget lent
 unfolding answerTold numberOf
-refusal-leaves-output s vs ps question budget w out = go (search-tells s vs ps question budget w)
+refusal-leaves-output s vs ps question budget lent out = go (search-tells s vs ps question budget lent)
   where
     asked : List ℕ → Searched
-    asked = searchOf s vs ps question budget w
+    asked = searchOf s vs ps question budget lent
 
     go : TellsTheSame asked → (answerNumber (asked out .answer) ≡ 0 → ⊥) → asked out .out ≡ out
-    go (without answer work none h) z = ap (λ (x : Searched). x .out) (h out)
-    go (with-route bytes steps work h) z = by (ltb (length out) (length bytes)) refl
+    go (without answer after none h) z = ap (λ (x : Searched). x .out) (h out)
+    go (with-route bytes steps after h) z = by (ltb (length out) (length bytes)) refl
       where
         route : Route steps (length bytes) asked
-        route = record { bytes = bytes; long = refl; work = work; writes = h }
+        route = record { bytes = bytes; long = refl; lent = after; writes = h }
 
         by : (b : Bool) → ltb (length out) (length bytes) ≡ b → asked out .out ≡ out
         by true l = ap (λ (x : Searched). x .out) (route-lacks asked out steps (length bytes) route (ltb-true (length out) (length bytes) l))
@@ -54,19 +53,19 @@ refusal-leaves-output s vs ps question budget w out = go (search-tells s vs ps q
             absurd (z (ap (λ (x : Searched). answerNumber (x .answer))
             (route-fits asked out steps (length bytes) route (ltb-false (length out) (length bytes) l))))
 
--- ---- the work buffers
+-- ---- the work buffers and the table
 
-pub refused-leaves-buffers : (s : ℕ) (vs ps question : List ℕ) (budget : ℕ) (w : Work) → RefusedLeavesBuffers s vs ps question budget w
+pub refused-leaves-buffers : (s : ℕ) (vs ps question : List ℕ) (budget : ℕ) (lent : Lent) → RefusedLeavesBuffers s vs ps question budget lent
 unfolding searchOf
-refused-leaves-buffers s vs ps question budget w out r e = rw e
+refused-leaves-buffers s vs ps question budget lent out r e = rw e
 
-pub no-places-leaves-buffers : (s : ℕ) (vs ps question : List ℕ) (budget : ℕ) (w : Work) → NoPlacesLeavesBuffers s vs ps question budget w
+pub no-places-leaves-buffers : (s : ℕ) (vs ps question : List ℕ) (budget : ℕ) (lent : Lent) → NoPlacesLeavesBuffers s vs ps question budget lent
 unfolding searchOf betweenOf
-no-places-leaves-buffers s vs ps question budget w out from to e z = rw (e, z)
+no-places-leaves-buffers s vs ps question budget lent out from to e z = rw (e, z)
 
-pub one-polygon-leaves-buffers : (s : ℕ) (vs ps question : List ℕ) (budget : ℕ) (w : Work) → OnePolygonLeavesBuffers s vs ps question budget w
+pub one-polygon-leaves-buffers : (s : ℕ) (vs ps question : List ℕ) (budget : ℕ) (lent : Lent) → OnePolygonLeavesBuffers s vs ps question budget lent
 unfolding searchOf betweenOf routed
-one-polygon-leaves-buffers s vs ps question budget w out from to e z same = rw (e, z, same)
+one-polygon-leaves-buffers s vs ps question budget lent out from to e z same = rw (e, z, same)
 
 -- ---- the points of a read-out
 
@@ -99,16 +98,16 @@ read-out-leaves-points s vs ps question route out = go (verdictOf s vs ps questi
 
 -- ---- the contracts
 
-pub search-leaves : UnchangedUnlessZero search.Post answerNumber (λ a. a .1 .1 .1 .1 .1 .1 .1 .0 .now) (λ e. e .1 .1 .1 .1 .1 .1 .1 .0 .now)
+pub search-leaves : UnchangedUnlessZero search.Post answerNumber (λ a. a .1 .1 .1 .1 .1 .1 .1 .1 .0 .now) (λ e. e .1 .1 .1 .1 .1 .1 .1 .1 .0 .now)
 search-leaves κs a z e p h =
     ap (λ (s : Searched). s .out) p
-    ∙ refusal-leaves-output 8 (a .0 .now) (a .1 .0 .now) (a .1 .1 .0 .now) (a .1 .1 .1 .0) _ (a .1 .1 .1 .1 .1 .1 .1 .0 .now)
+    ∙ refusal-leaves-output 8 (a .0 .now) (a .1 .0 .now) (a .1 .1 .0 .now) (a .1 .1 .1 .0) _ (a .1 .1 .1 .1 .1 .1 .1 .1 .0 .now)
     (λ k. h (ap (λ (s : Searched). answerNumber (s .answer)) p ∙ k))
 
-pub search-default-leaves : UnchangedUnlessZero search-default.Post answerNumber (λ a. a .1 .1 .1 .1 .1 .1 .0 .now) (λ e. e .1 .1 .1 .1 .1 .1 .0 .now)
+pub search-default-leaves : UnchangedUnlessZero search-default.Post answerNumber (λ a. a .1 .1 .1 .1 .1 .1 .1 .0 .now) (λ e. e .1 .1 .1 .1 .1 .1 .1 .0 .now)
 search-default-leaves κs a z e p h =
     ap (λ (s : Searched). s .out) p
-    ∙ refusal-leaves-output 8 (a .0 .now) (a .1 .0 .now) (a .1 .1 .0 .now) 4096 _ (a .1 .1 .1 .1 .1 .1 .0 .now)
+    ∙ refusal-leaves-output 8 (a .0 .now) (a .1 .0 .now) (a .1 .1 .0 .now) 4096 _ (a .1 .1 .1 .1 .1 .1 .1 .0 .now)
     (λ k. h (ap (λ (s : Searched). answerNumber (s .answer)) p ∙ k))
 
 pub read-out-leaves : UnchangedUnlessZero read-out.Post readoutNumber (λ a. a .1 .1 .1 .1 .0 .now) (λ e. e .1 .1 .1 .1 .0 .now)

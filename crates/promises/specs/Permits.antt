@@ -21,22 +21,36 @@ abbrev pub Agree : {L A Z E M B Y F S : Type 0} → (L → A → Z → E → Typ
 Agree {L} {A} {Z} {E} {M} {B} {Y} {F} permits seen permits-too seen-too given =
     (κs : L) (ιs : M) (a : A) (z : Z) (y : Y) (e : E) (f : F) → permits κs a z e → permits-too ιs (given a) y f → seen z e ≡ seen-too y f
 
--- what is seen of a search: the answer, the three work buffers and the output
+-- what is seen of a search: the answer, the three work buffers, the table and the output
 abbrev pub SeenOfSearch : Type 0
-SeenOfSearch = Answer × List Float × List ℕ × List ℕ × List ℕ
+SeenOfSearch = Answer × List Float × List ℕ × List ℕ × List ℕ × List ℕ
 
 -- "The entry without a budget uses 4,096": it permits just what the entry with a budget permits of 4,096, all else being the same.
 abbrev pub DefaultIs4096 : Type 0
 DefaultIs4096 =
     Agree {S = SeenOfSearch} search-default.Post
-    (λ z e. (z, e .1 .1 .1 .0 .now, e .1 .1 .1 .1 .0 .now, e .1 .1 .1 .1 .1 .0 .now, e .1 .1 .1 .1 .1 .1 .0 .now))
+    (λ z e. (
+      z,
+      e .1 .1 .1 .0 .now,
+      e .1 .1 .1 .1 .0 .now,
+      e .1 .1 .1 .1 .1 .0 .now,
+      e .1 .1 .1 .1 .1 .1 .0 .now,
+      e .1 .1 .1 .1 .1 .1 .1 .0 .now,
+    ))
     search.Post
-    (λ z e. (z, e .1 .1 .1 .1 .0 .now, e .1 .1 .1 .1 .1 .0 .now, e .1 .1 .1 .1 .1 .1 .0 .now, e .1 .1 .1 .1 .1 .1 .1 .0 .now))
+    (λ z e. (
+      z,
+      e .1 .1 .1 .1 .0 .now,
+      e .1 .1 .1 .1 .1 .0 .now,
+      e .1 .1 .1 .1 .1 .1 .0 .now,
+      e .1 .1 .1 .1 .1 .1 .1 .0 .now,
+      e .1 .1 .1 .1 .1 .1 .1 .1 .0 .now,
+    ))
     (λ a. (a .0, (a .1 .0, (a .1 .1 .0, (4096, a .1 .1 .1)))))
 
--- what is seen of one in C: the number, the three work buffers, the output, the counted steps and the value
+-- what is seen of one in C: the number, the three work buffers, the table, the output, the counted steps and the value
 abbrev pub SeenInC : Type 0
-SeenInC = ℕ × List Float × List ℕ × List ℕ × List ℕ × ℕ × ℕ
+SeenInC = ℕ × List Float × List ℕ × List ℕ × List ℕ × List ℕ × ℕ × ℕ
 
 -- "Other than 0, nothing in the output changes": whatever a contract permits with another number than 0 leaves this as it was.
 abbrev pub UnchangedUnlessZero : {L A Z E S : Type 0} → (L → A → Z → E → Type 0) → (Z → ℕ) → (A → S) → (E → S) → Type 0

@@ -22,13 +22,13 @@ use Rattle.judge.specs.Verdict.{verdictOf}
 use Rattle.readout.specs.declared.Readout.the-variants.{Listed}
 use Rattle.readout.specs.Points.{lengthOf}
 use Rattle.readout.specs.Readout.{routePoints, readoutOf, writtenOf, readoutNumber}
-use Rattle.places.specs.Layout.{Work, placesIn}
+use Rattle.places.specs.Layout.{placesIn}
 use Rattle.writing.specs.declared.Answer.{Answer}
-use Rattle.writing.specs.declared.Answer.the-variants.{Found, NotFound, NoPlaces, Full, Spent, Short}
+use Rattle.writing.specs.declared.Answer.the-variants.{Found, NotFound, NoPlaces, Full, Spent, Short, TableFull}
 use Rattle.writing.specs.declared.Answer.the-variants.{Refused as Turned}
 use Rattle.writing.specs.Answers.{answerNumber}
 use Rattle.writing.specs.Delivered.{written}
-use Rattle.search.specs.Whole.{Searched, searchedOf, withWork, searchOf}
+use Rattle.search.specs.Whole.{Lent, Searched, searchedOf, withLent, searchOf}
 
 -- ---- a search, over every output that it may be lent
 
@@ -36,8 +36,8 @@ use Rattle.search.specs.Whole.{Searched, searchedOf, withWork, searchOf}
 pub record Route (steps n : ℕ) (search : List ℕ → Searched) : Type 0 where
   pub bytes : List ℕ
   pub long : length bytes ≡ n
-  pub work : Work
-  pub writes : (out : List ℕ) → search out ≡ withWork work (written bytes steps out)
+  pub lent : Lent
+  pub writes : (out : List ℕ) → search out ≡ withLent lent (written bytes steps out)
 
 -- A route longer than the room.
 pub record Longer (steps room : ℕ) (search : List ℕ → Searched) : Type 0 where
@@ -54,25 +54,26 @@ NoRoute NoPlaces = Unit {0}
 NoRoute (Full steps) = Unit {0}
 NoRoute (Spent steps) = Unit {0}
 NoRoute (Short steps) = ⊥
+NoRoute (TableFull steps) = Unit {0}
 
 -- Whatever output it is lent, a search gives the same answer with no route and leaves the output, or has the same route.
 pub data TellsTheSame (search : List ℕ → Searched) : Type 0 where
-  without : (answer : Answer) (work : Work) → NoRoute answer → ((out : List ℕ) → search out ≡ searchedOf answer work out) → TellsTheSame search
-  with-route : (bytes : List ℕ) (steps : ℕ) (work : Work) → ((out : List ℕ) → search out ≡ withWork work (written bytes steps out))
+  without : (answer : Answer) (lent : Lent) → NoRoute answer → ((out : List ℕ) → search out ≡ searchedOf answer lent out) → TellsTheSame search
+  with-route : (bytes : List ℕ) (steps : ℕ) (lent : Lent) → ((out : List ℕ) → search out ≡ withLent lent (written bytes steps out))
       → TellsTheSame search
 
--- the same answer, the same buffers and the same n bytes in front
+-- the same answer, the same buffers, the table among them, and the same n bytes in front
 pub record SameRoute (n : ℕ) (a b : Searched) : Type 0 where
   pub answer-same : b .answer ≡ a .answer
-  pub work-same : b .work ≡ a .work
+  pub lent-same : b .lent ≡ a .lent
   pub bytes-same : take n (b .out) ≡ take n (a .out)
 
 -- ---- the promises on a search
 
-module _ (slots : ℕ) (vertices polygons question : List ℕ) (budget : ℕ) (work : Work) where
+module _ (slots : ℕ) (vertices polygons question : List ℕ) (budget : ℕ) (lent : Lent) where
   -- what it answers and leaves, for whatever output it is lent
   abbrev search : List ℕ → Searched
-  search = searchOf slots vertices polygons question budget work
+  search = searchOf slots vertices polygons question budget lent
 
   -- Demand 3: "every route that our search finds and has room to write is accepted": where the search answers 0, the judge answers 0 on just the bytes that
   -- it wrote.
@@ -107,7 +108,7 @@ module _ (slots : ℕ) (vertices polygons question : List ℕ) (budget : ℕ) (w
   -- "13: output too short": with 32 × (N + 1) bytes of room it never comes.
   abbrev pub WideIsNeverShort : Type 0
   WideIsNeverShort =
-      0 < slots → slots ≤ 16 → Bytes polygons → (out : List ℕ) → 32 * (placesIn work + 1) ≤ length out → (steps : ℕ)
+      0 < slots → slots ≤ 16 → Bytes polygons → (out : List ℕ) → 32 * (placesIn (lent .work) + 1) ≤ length out → (steps : ℕ)
       → search out .answer ≡ Short steps → ⊥
 
   -- Where a search does not end by its budget, every larger budget gives the same answer, the same buffers and the same output: so where it answers 0, it
@@ -115,7 +116,7 @@ module _ (slots : ℕ) (vertices polygons question : List ℕ) (budget : ℕ) (w
   abbrev pub LargerBudgetSame : Type 0
   LargerBudgetSame =
       (more : ℕ) (out : List ℕ) → ((steps : ℕ) → search out .answer ≡ Spent steps → ⊥)
-      → searchOf slots vertices polygons question (budget + more) work out ≡ search out
+      → searchOf slots vertices polygons question (budget + more) lent out ≡ search out
 
   -- Where a search answers 0, every larger output gets the answer 0 too, with the same counted steps, the same buffers and the same bytes.
   abbrev pub LargerOutputSame : Type 0
@@ -127,23 +128,23 @@ module _ (slots : ℕ) (vertices polygons question : List ℕ) (budget : ℕ) (w
   abbrev pub RefusalLeavesOutput : Type 0
   RefusalLeavesOutput = (out : List ℕ) → (answerNumber (search out .answer) ≡ 0 → ⊥) → search out .out ≡ out
 
-  -- "Up to 10 the work buffers stay too": where floor or question is refused,
+  -- "Up to 10 the work buffers stay too", and the table with them: where floor or question is refused,
   abbrev pub RefusedLeavesBuffers : Type 0
   RefusedLeavesBuffers =
-      (out : List ℕ) (r : Refusal) → lookOf slots vertices polygons question ≡ Refused r → search out ≡ searchedOf (Turned r) work out
+      (out : List ℕ) (r : Refusal) → lookOf slots vertices polygons question ≡ Refused r → search out ≡ searchedOf (Turned r) lent out
 
   -- where there is no place,
   abbrev pub NoPlacesLeavesBuffers : Type 0
   NoPlacesLeavesBuffers =
-      (out : List ℕ) (from to : ℕ) → lookOf slots vertices polygons question ≡ Inside from to → eqb (placesIn work) 0 ≡ true
-      → search out ≡ searchedOf NoPlaces work out
+      (out : List ℕ) (from to : ℕ) → lookOf slots vertices polygons question ≡ Inside from to → eqb (placesIn (lent .work)) 0 ≡ true
+      → search out ≡ searchedOf NoPlaces lent out
 
-  -- and "Start and goal in one polygon: found, no steps, work buffers untouched."
+  -- and "Start and goal in one polygon: found, no steps, work buffers untouched." The table too.
   abbrev pub OnePolygonLeavesBuffers : Type 0
   OnePolygonLeavesBuffers =
-      (out : List ℕ) (from to : ℕ) → lookOf slots vertices polygons question ≡ Inside from to → eqb (placesIn work) 0 ≡ false
+      (out : List ℕ) (from to : ℕ) → lookOf slots vertices polygons question ≡ Inside from to → eqb (placesIn (lent .work)) 0 ≡ false
       → eqb from to ≡ true
-      → search out .work ≡ work
+      → search out .lent ≡ lent
 
 -- ---- the promise on a read-out
 

@@ -38,7 +38,7 @@ pub cleared-length : (m : ℕ) (t : List ℕ) → m ≤ length t → length (cle
 unfolding cleared
 cleared-length m t l = simp (length-append, length-replicate, length-drop) (omega arith)
 
-cleared-word : (m : ℕ) (t : List ℕ) (k : ℕ) → k < m → getD (cleared m t) k 0 ≡ none
+pub cleared-word : (m : ℕ) (t : List ℕ) (k : ℕ) → k < m → getD (cleared m t) k 0 ≡ none
 unfolding cleared
 cleared-word m t k l =
     List·getD-append (replicate m none) (drop m t) 0 k (rw (length-replicate m none) l) ∙ getD-replicate m k none 0 l

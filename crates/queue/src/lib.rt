@@ -146,16 +146,14 @@ pub fn remove(tree: &mut [u32], fs: &[f32], stride: usize, at: usize, n: usize, 
     place(tree, fs, stride, at, n, i, false);
 }
 
-// Makes the tree of no queued place.
-pub fn clear(tree: &mut [u32], n: usize)
-    requires { ⌜ Room n (now tree) ⌝ }
-    ensures words { λ _. ⌜ now (tree .exit) ≡ cleared (2 * n) (now (tree .entry)) ⌝ }
-    ensures queue { λ _. ⌜ ((f : ℕ → Float) (q : ℕ → Bool) → Empty n q → Tree f n q (now (tree .exit))) ⌝ }
+// Makes the first m words NONE. Two for each place are the tree of no queued place.
+pub fn clear(words: &mut [u32], m: usize)
+    requires { ⌜ m ≤ length (now words) ⌝ }
+    ensures { λ _. ⌜ now (words .exit) ≡ cleared m (now (words .entry)) ⌝ }
 {
-    let words = 2 * n;
     let mut k = 0;
-    while k < words {
-        tree[k] = NONE;
+    while k < m {
+        words[k] = NONE;
         k += 1;
     }
 }

@@ -36,6 +36,13 @@ fn room_for_queue() -> [u32; 4094]
     [0; 4094]
 }
 
+// Room for 2,047 nodes that a stalled search has met, ten words each: with as many as there are nodes 14 never comes (`never-14`).
+fn room_for_table() -> [u32; 20470]
+    ensures { λ r. ⌜ 20470 ≡ length r ⌝ }
+{
+    [0; 20470]
+}
+
 fn room_for_output() -> [u8; 65536]
     ensures { λ r. ⌜ 65536 ≡ length r ⌝ }
 {
@@ -67,6 +74,7 @@ fn search_files(vertices: &[u8], polygons: &[u8], question: &[u8], out: &mut [u8
     let mut floats = room_for_floats();
     let mut words = room_for_words();
     let mut queue = room_for_queue();
+    let mut table = room_for_table();
     search::search_default(
         vertices,
         polygons,
@@ -74,6 +82,7 @@ fn search_files(vertices: &[u8], polygons: &[u8], question: &[u8], out: &mut [u8
         &mut floats,
         &mut words,
         &mut queue,
+        &mut table,
         out,
     )
 }

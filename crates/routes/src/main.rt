@@ -1,6 +1,7 @@
-// Searches stored floors for stored routes: the file `cases`. A case is ten little-endian words: the bytes of its name, of the
-// vertex list, the polygon list and the question; the places, the budget and the bytes of room that are lent; the number, the
-// counted steps and the route's bytes that must come back. Then the name, the two lists, the question and the route follow.
+// Searches stored floors for stored routes: the file `cases`. A case is eleven little-endian words: the bytes of its name, of the
+// vertex list, the polygon list and the question; the places, the entries of the table, the budget and the bytes of room that are
+// lent; the number, the counted steps and the route's bytes that must come back. Then the name, the two lists, the question and the
+// route follow.
 // A line each says what came out, whether it is what is stored, and what the judge says of the bytes that were written.
 
 ghost use mathlib.Core.Path.{_≡_};
@@ -22,6 +23,7 @@ struct Parts {
 // What the search gets beside floor and question.
 struct Lent {
     places: usize,
+    entries: usize,
     budget: usize,
     room: usize,
 }
@@ -35,7 +37,7 @@ struct Stored {
 // What the output is lent full of, so that a byte that is written where none should be shows.
 const UNWRITTEN: u8 = 255;
 
-const HEADER_BYTES: usize = 40;
+const HEADER_BYTES: usize = 44;
 
 const MOST_NAME_BYTES: usize = 64;
 
@@ -78,28 +80,29 @@ fn tried(fd: i32) -> bool {
     true
 }
 
-fn parts_of(header: &[u8; 40]) -> Parts {
+fn parts_of(header: &[u8; 44]) -> Parts {
     Parts {
         name: word::read(header, 0) as usize,
         vertices: word::read(header, 4) as usize,
         polygons: word::read(header, 8) as usize,
         question: word::read(header, 12) as usize,
-        route: word::read(header, 36) as usize,
+        route: word::read(header, 40) as usize,
     }
 }
 
-fn lent_of(header: &[u8; 40]) -> Lent {
+fn lent_of(header: &[u8; 44]) -> Lent {
     Lent {
         places: word::read(header, 16) as usize,
-        budget: word::read(header, 20) as usize,
-        room: word::read(header, 24) as usize,
+        entries: word::read(header, 20) as usize,
+        budget: word::read(header, 24) as usize,
+        room: word::read(header, 28) as usize,
     }
 }
 
-fn stored_of(header: &[u8; 40]) -> Stored {
+fn stored_of(header: &[u8; 44]) -> Stored {
     Stored {
-        number: word::read(header, 28),
-        steps: word::read(header, 32) as usize,
+        number: word::read(header, 32),
+        steps: word::read(header, 36) as usize,
     }
 }
 
@@ -193,7 +196,14 @@ fn room_for_queue() -> [u32; 8192]
     [0; 8192]
 }
 
-// The search with as many places, as many steps and as much room as is lent.
+// Room for 4,096 nodes that a stalled search has met, ten words each.
+fn room_for_table() -> [u32; 40960]
+    ensures { λ r. ⌜ 40960 ≡ length r ⌝ }
+{
+    [0; 40960]
+}
+
+// The search with as many places and entries, as many steps and as much room as is lent.
 fn search_with(
     lent: Lent,
     vertices: &[u8],
@@ -204,7 +214,9 @@ fn search_with(
     let mut floats = room_for_floats();
     let mut words = room_for_words();
     let mut queue = room_for_queue();
+    let mut table = room_for_table();
     let n = console::at_most(lent.places, places::MOST_PLACES);
+    let m = console::at_most(lent.entries, places::MOST_PLACES);
     search::search(
         vertices,
         polygons,
@@ -213,6 +225,7 @@ fn search_with(
         &mut floats[..n * 11],
         &mut words[..n * 8],
         &mut queue[..n * 2],
+        &mut table[..m * 10],
         out,
     )
 }

@@ -49,4 +49,5 @@ wordsOf number =
     (cond (eqb number 11) (bytesOf "the room for nodes is used up")
     (cond (eqb number 12) (bytesOf "the budget of steps is spent")
     (cond (eqb number 13) (bytesOf "the output is too short")
-    (floorWordsOf number))))))
+    (cond (eqb number 14) (bytesOf "the search stalled, and its table is full")
+    (floorWordsOf number)))))))

@@ -20,6 +20,7 @@ pub fn words(number: u32, room: &mut [u8; 64]) -> usize
         11 => bytes::copy(b"the room for nodes is used up", room),
         12 => bytes::copy(b"the budget of steps is spent", room),
         13 => bytes::copy(b"the output is too short", room),
+        14 => bytes::copy(b"the search stalled, and its table is full", room),
         _ => floor_words(number, room),
     }
 }

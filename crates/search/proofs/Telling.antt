@@ -11,7 +11,7 @@ use Rattle.edges.specs.Ground.{Ground}
 use Rattle.steps.specs.declared.Node.{Node}
 use Rattle.machine.specs.declared.Task.{Task}
 use Rattle.machine.specs.declared.Finish.{Finish}
-use Rattle.machine.specs.declared.Finish.the-variants.{Arrived, Emptied, Filled, Stopped}
+use Rattle.machine.specs.declared.Finish.the-variants.{Arrived, Emptied, Filled, Stopped, Crowded}
 use Rattle.machine.specs.declared.Outcome.the-variants.{Ends}
 use Rattle.places.specs.Layout.{wordsPerPlace, Work, depthAt, parentAt}
 use Rattle.machine.specs.Search.{State}
@@ -62,3 +62,4 @@ module _ (plan vs ps : List ℕ) (t : Task) (seed : Node) (s : State) (h : Sound
     finish-tells Emptied at = tt
     finish-tells Filled at = tt
     finish-tells Stopped at = tt
+    finish-tells Crowded at = tt

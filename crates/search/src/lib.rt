@@ -8,7 +8,7 @@ ghost use Rattle.plan.specs.Plan.{polygonCountIn};
 ghost use Rattle.stored.specs.Stored.{floorIn};
 ghost use Rattle.edges.specs.Ground.{Ground};
 ghost use Rattle.places.specs.Layout.{workOf, Room};
-ghost use Rattle.search.specs.Whole.{searchedOf, routed, betweenOf, askedOf, searchOf};
+ghost use Rattle.search.specs.Whole.{lentOf, searchedOf, routed, betweenOf, askedOf, searchOf};
 use floor::FloorLook;
 use floor::Look;
 use machine::Task;
@@ -32,6 +32,7 @@ fn route_from(
     floats: &mut [f32],
     words: &mut [u32],
     tree: &mut [u32],
+    table: &mut [u32],
     out: &mut [u8],
 ) -> Answer
     requires { ⌜ Ground (now plan) (now vertices) (now polygons) × (task .trip .from < polygonCountIn (now plan)) ⌝ }
@@ -39,15 +40,25 @@ fn route_from(
     requires { ⌜ sameOf (task .trip .start) (task .trip .start) ≡ true ⌝ }
     ensures { λ r.
         let f = floorIn (now (plan .entry)) (now (vertices .entry)) (now (polygons .entry)) in
-        let before = workOf (now (floats .entry)) (now (words .entry)) (now (tree .entry)) in
-        let after = workOf (now (floats .exit)) (now (words .exit)) (now (tree .exit)) in
+        let before = lentOf (workOf (now (floats .entry)) (now (words .entry)) (now (tree .entry))) (now (table .entry)) in
+        let after = lentOf (workOf (now (floats .exit)) (now (words .exit)) (now (tree .exit))) (now (table .exit)) in
         ⌜ searchedOf r after (now (out .exit)) ≡ routed f task budget before (now (out .entry)) ⌝ }
 {
     let trip = task.trip;
     if trip.from == trip.to {
         return write_straight(trip, out);
     }
-    let ended = search_from(vertices, polygons, plan, task, budget, floats, words, tree);
+    let ended = search_from(
+        vertices,
+        polygons,
+        plan,
+        task,
+        budget,
+        floats,
+        words,
+        tree,
+        table,
+    );
     tell(trip, ended, floats, words, out)
 }
 
@@ -61,14 +72,15 @@ fn route_between(
     floats: &mut [f32],
     words: &mut [u32],
     tree: &mut [u32],
+    table: &mut [u32],
     out: &mut [u8],
 ) -> Answer
     requires { ⌜ Ground (now plan) (now vertices) (now polygons) × (trip .from < polygonCountIn (now plan))
         × (sameOf (trip .start) (trip .start) ≡ true) ⌝ }
     ensures { λ r.
         let f = floorIn (now (plan .entry)) (now (vertices .entry)) (now (polygons .entry)) in
-        let before = workOf (now (floats .entry)) (now (words .entry)) (now (tree .entry)) in
-        let after = workOf (now (floats .exit)) (now (words .exit)) (now (tree .exit)) in
+        let before = lentOf (workOf (now (floats .entry)) (now (words .entry)) (now (tree .entry))) (now (table .entry)) in
+        let after = lentOf (workOf (now (floats .exit)) (now (words .exit)) (now (tree .exit))) (now (table .exit)) in
         ⌜ searchedOf r after (now (out .exit)) ≡ betweenOf f trip budget before (now (out .entry)) ⌝ }
 {
     let places = places::places_in(floats, words, tree);
@@ -85,6 +97,7 @@ fn route_between(
         floats,
         words,
         tree,
+        table,
         out,
     )
 }
@@ -99,13 +112,14 @@ pub fn search_on(
     floats: &mut [f32],
     words: &mut [u32],
     tree: &mut [u32],
+    table: &mut [u32],
     out: &mut [u8],
 ) -> Answer
     requires { ⌜ Ground (now plan) (now vertices) (now polygons) ⌝ }
     ensures { λ r.
         let f = floorIn (now (plan .entry)) (now (vertices .entry)) (now (polygons .entry)) in
-        let before = workOf (now (floats .entry)) (now (words .entry)) (now (tree .entry)) in
-        let after = workOf (now (floats .exit)) (now (words .exit)) (now (tree .exit)) in
+        let before = lentOf (workOf (now (floats .entry)) (now (words .entry)) (now (tree .entry))) (now (table .entry)) in
+        let after = lentOf (workOf (now (floats .exit)) (now (words .exit)) (now (tree .exit))) (now (table .exit)) in
         ⌜ searchedOf r after (now (out .exit)) ≡ askedOf f (now (question .entry)) budget before (now (out .entry)) ⌝ }
 {
     match floor::ask(vertices, polygons, plan, question) {
@@ -120,6 +134,7 @@ pub fn search_on(
                 floats,
                 words,
                 tree,
+                table,
                 out,
             )
         }
@@ -136,11 +151,12 @@ pub fn search(
     floats: &mut [f32],
     words: &mut [u32],
     tree: &mut [u32],
+    table: &mut [u32],
     out: &mut [u8],
 ) -> Answer
     ensures { λ r.
-        let before = workOf (now (floats .entry)) (now (words .entry)) (now (tree .entry)) in
-        let after = workOf (now (floats .exit)) (now (words .exit)) (now (tree .exit)) in
+        let before = lentOf (workOf (now (floats .entry)) (now (words .entry)) (now (tree .entry))) (now (table .entry)) in
+        let after = lentOf (workOf (now (floats .exit)) (now (words .exit)) (now (tree .exit))) (now (table .exit)) in
         ⌜ searchedOf r after (now (out .exit))
         ≡ searchOf 8 (now (vertices .entry)) (now (polygons .entry)) (now (question .entry)) budget before (now (out .entry)) ⌝ }
 {
@@ -155,6 +171,7 @@ pub fn search(
             floats,
             words,
             tree,
+            table,
             out,
         ),
         FloorLook::Faulty(refusal) => Answer::Refused(refusal),
@@ -169,11 +186,12 @@ pub fn search_default(
     floats: &mut [f32],
     words: &mut [u32],
     tree: &mut [u32],
+    table: &mut [u32],
     out: &mut [u8],
 ) -> Answer
     ensures { λ r.
-        let before = workOf (now (floats .entry)) (now (words .entry)) (now (tree .entry)) in
-        let after = workOf (now (floats .exit)) (now (words .exit)) (now (tree .exit)) in
+        let before = lentOf (workOf (now (floats .entry)) (now (words .entry)) (now (tree .entry))) (now (table .entry)) in
+        let after = lentOf (workOf (now (floats .exit)) (now (words .exit)) (now (tree .exit))) (now (table .exit)) in
         ⌜ searchedOf r after (now (out .exit))
         ≡ searchOf 8 (now (vertices .entry)) (now (polygons .entry)) (now (question .entry)) 4096 before (now (out .entry)) ⌝ }
 {
@@ -185,6 +203,7 @@ pub fn search_default(
         floats,
         words,
         tree,
+        table,
         out,
     )
 }

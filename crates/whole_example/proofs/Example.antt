@@ -21,13 +21,14 @@ use Rattle.queue.specs.Queue as Queue
 use Rattle.queue.specs.Words as Words
 use Rattle.judge.specs.Verdict as Verdict
 use Rattle.places.specs.Layout as Layout
+use Rattle.seen.specs.Table as Table
 use Rattle.machine.specs.Search as Search
 use Rattle.writing.specs.Delivered as Delivered
 use Rattle.search.specs.Whole as Whole
-use Rattle.whole_example.specs.Example.{vertices, polygons, question, route, lent, room, WholeExample}
+use Rattle.whole_example.specs.Example.{vertices, polygons, question, route, work, room, WholeExample}
 
 pub whole-example : WholeExample
-unfolding vertices polygons question route lent room Counts.every Counts.first Counts.some Counts.table Word.bytesOf Word.littleEndian Word.wordAt
+unfolding vertices polygons question route work room Counts.every Counts.first Counts.some Counts.table Word.bytesOf Word.littleEndian Word.wordAt
     Units.unitsOf Root.dropped Root.nearestRoot Root.rootOf Root.roundedRoot Root.wholeRoot Sides.betweenOf Helpers.clampOf Helpers.crossesOf
     Helpers.goalBeyondOf Helpers.heuristicOf Helpers.intersectionTimeOf Helpers.lineIntersectSegmentOf Sides.magnitudeOf Sides.maxOf Sides.minOf
     Sides.mirrorOf Sides.sameSideOf Sides.sideOf Helpers.turningPointOf Point.distanceOf Point.distanceSquaredOf Point.dotOf Point.endsAtOf
@@ -44,8 +45,9 @@ unfolding vertices polygons question route lent room Counts.every Counts.first C
     Queue.leastOf Queue.ownOf Queue.put Queue.treeWords Queue.wordAt Words.cleared Words.column Words.queuedIn Words.queueOf Verdict.verdictOf
     Layout.depthIn Layout.distancePut Layout.floatAt Layout.intervalIn Layout.kindOf Layout.nodeIn Layout.numberIn Layout.parentIn Layout.placesIn
     Layout.putFloats Layout.putWords Layout.puts Layout.recordDistance Layout.recordFor Layout.recordPut Layout.recordRoot Layout.stepIn Layout.wordAt
-    Search.beatenIn Search.begun Search.counted Search.kept Search.made Search.madeAll Search.originAt Search.placed Search.planted Search.popped
-    Search.queued Search.recorded Search.run Search.searchedFrom Search.seedOrigin Search.step Search.taken Search.tookPlace Search.tookRecord
-    Search.visited Whole.betweenOf Delivered.chainBytes Delivered.endAfter Delivered.routeBytes Whole.routed Whole.searchOf Delivered.straightBytes
-    Delivered.delivered Delivered.written add sub mul div neg lt le eq ofBits toBits odd size isNan
-whole-example = record { found = refl; written = refl; accepted = refl }
+    Table.remembered Search.beatenIn Search.begun Search.counted Search.kept Search.made Search.madeAll Search.noticed Search.originAt Search.outset
+    Search.placed Search.planted Search.popped Search.pursued Search.queued Search.recorded Search.run Search.searchedFrom Search.seedOrigin
+    Search.step Search.tableAfter Search.taken Search.tookPlace Search.tookRecord Search.visited Search.watched Whole.betweenOf Delivered.chainBytes
+    Delivered.endAfter Delivered.routeBytes Whole.routed Whole.searchOf Delivered.straightBytes Delivered.delivered Delivered.written add sub mul div
+    neg lt le eq ofBits toBits odd size isNan
+whole-example = record { found = λ table. refl; written = λ table. refl; untouched = λ table. refl; accepted = refl }

@@ -9,7 +9,7 @@ use Rattle.judge.specs.declared.Verdict.the-variants.{Read}
 use Rattle.judge.specs.Verdict.{verdictOf}
 use Rattle.writing.specs.declared.Answer.the-variants.{Found}
 use Rattle.places.specs.Layout.{Work}
-use Rattle.search.specs.Whole.{searchOf}
+use Rattle.search.specs.Whole.{lentOf, Searched, searchOf}
 
 -- "vertices (0,0) (2,0) (4,0) (4,2) (2,2) (0,2)"
 unfoldable pub vertices : List ℕ
@@ -54,15 +54,21 @@ route =
     ∷ []
 
 -- two places, which the seed and its one step take
-unfoldable pub lent : Work
-lent = record { floats = replicate 22 (ofBits binary32 0); words = replicate 16 0; queue = replicate 4 0 }
+unfoldable pub work : Work
+work = record { floats = replicate 22 (ofBits binary32 0); words = replicate 16 0; queue = replicate 4 0 }
 
 -- a record more than the route has, and no byte of it 0
 unfoldable pub room : List ℕ
 room = replicate 128 7
 
--- The search finds the route in one step and writes its 96 bytes at the front, and what is behind them stays; the judge accepts them.
+-- the search, with whatever table
+abbrev pub example : List ℕ → Searched
+example table = searchOf 8 vertices polygons question 4096 (lentOf work table) room
+
+-- The search finds the route in one step and writes its 96 bytes at the front, and what is behind them stays; the table, which only a stall needs, stays too.
+-- The judge accepts the bytes.
 pub record WholeExample : Type 0 where
-  pub found : searchOf 8 vertices polygons question 4096 lent room .answer ≡ Found 1 96
-  pub written : searchOf 8 vertices polygons question 4096 lent room .out ≡ route ++ replicate 32 7
+  pub found : (table : List ℕ) → example table .answer ≡ Found 1 96
+  pub written : (table : List ℕ) → example table .out ≡ route ++ replicate 32 7
+  pub untouched : (table : List ℕ) → example table .lent .table ≡ table
   pub accepted : verdictOf 8 vertices polygons question route ≡ Read Accepted

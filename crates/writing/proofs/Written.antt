@@ -21,10 +21,10 @@ use Rattle.steps.specs.World.{endingOf}
 use Rattle.places.specs.Layout.{Work, workOf, nodeIn, stepIn, parentIn, depthIn}
 use Rattle.writing.specs.Delivered.{Delivered, deliveredOf, chainBytes, endAfter, routeBytes, straightBytes, written, delivered}
 use Rattle.writing.specs.declared.Answer.{Answer}
-use Rattle.writing.specs.declared.Answer.the-variants.{Found, NotFound, Full, Spent, Short}
+use Rattle.writing.specs.declared.Answer.the-variants.{Found, NotFound, Full, Spent, Short, TableFull}
 use Rattle.machine.specs.declared.Counts.{Counts}
 use Rattle.machine.specs.declared.Finish.{Finish}
-use Rattle.machine.specs.declared.Finish.the-variants.{Arrived, Emptied, Filled, Stopped}
+use Rattle.machine.specs.declared.Finish.the-variants.{Arrived, Emptied, Filled, Stopped, Crowded}
 use Rattle.machine.specs.Search.{stateOf, ending}
 use Rattle.writing.specs.Writing.{putChain}
 
@@ -277,3 +277,7 @@ module _ (floats : List Float) (words : List ℕ) (trip : Trip) (counts : Counts
   pub told-stopped : finish ≡ Stopped → AnyDelivers told (Spent (counts .pops)) out
   unfolding delivered
   told-stopped e = any-delivers told (λ queue. rw e)
+
+  pub told-crowded : finish ≡ Crowded → AnyDelivers told (TableFull (counts .pops)) out
+  unfolding delivered
+  told-crowded e = any-delivers told (λ queue. rw e)

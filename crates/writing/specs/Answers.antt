@@ -7,7 +7,7 @@ use Rattle.told.specs.Told.{numberOf, valuesOf}
 use Rattle.floor.specs.declared.Refusal.{Refusal}
 use Rattle.floor.specs.Look.{refusalTold}
 use Rattle.writing.specs.declared.Answer.{Answer}
-use Rattle.writing.specs.declared.Answer.the-variants.{Found, NotFound, Refused, NoPlaces, Full, Spent, Short}
+use Rattle.writing.specs.declared.Answer.the-variants.{Found, NotFound, Refused, NoPlaces, Full, Spent, Short, TableFull}
 
 -- an answer that a look at floor and question gives
 abbrev pub refused : Refusal → Answer
@@ -28,6 +28,8 @@ answerTold (Full steps) = Alone 11
 answerTold (Spent steps) = Alone 12
 -- "output too short"
 answerTold (Short steps) = Alone 13
+-- document 02: "a new entry needed and the table full"
+answerTold (TableFull steps) = Alone 14
 
 abbrev pub answerNumber : Answer → ℕ
 answerNumber answer = numberOf (answerTold answer)
@@ -45,3 +47,4 @@ answerSteps NoPlaces = 0
 answerSteps (Full steps) = steps
 answerSteps (Spent steps) = steps
 answerSteps (Short steps) = steps
+answerSteps (TableFull steps) = steps

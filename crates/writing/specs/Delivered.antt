@@ -12,10 +12,10 @@ use Rattle.steps.specs.Steps.{seedNode}
 use Rattle.steps.specs.World.{endingOf}
 use Rattle.places.specs.Layout.{Work, nodeAt, stepAt, parentAt, depthAt}
 use Rattle.machine.specs.declared.Finish.{Finish}
-use Rattle.machine.specs.declared.Finish.the-variants.{Arrived, Emptied, Filled, Stopped}
+use Rattle.machine.specs.declared.Finish.the-variants.{Arrived, Emptied, Filled, Stopped, Crowded}
 use Rattle.machine.specs.Search.{Ending}
 use Rattle.writing.specs.declared.Answer.{Answer}
-use Rattle.writing.specs.declared.Answer.the-variants.{Found, NotFound, Full, Spent, Short}
+use Rattle.writing.specs.declared.Answer.the-variants.{Found, NotFound, Full, Spent, Short, TableFull}
 
 -- the answer and the output
 pub record Delivered : Type 0 where
@@ -55,6 +55,7 @@ finished w trip (Arrived i) steps out = written (routeBytes w trip i) steps out
 finished w trip Emptied steps out = deliveredOf (NotFound steps) out
 finished w trip Filled steps out = deliveredOf (Full steps) out
 finished w trip Stopped steps out = deliveredOf (Spent steps) out
+finished w trip Crowded steps out = deliveredOf (TableFull steps) out
 
 unfoldable pub delivered : Trip → Ending → List ℕ → Delivered
 delivered trip e out = finished (e .state .work) trip (e .finish) (e .state .counts .pops) out

@@ -6,7 +6,7 @@ use lib.Ieee.{Float}
 use lib.ListN.{length}
 use Rattle.route.specs.Record.{stepBytes, putRecord}
 use Rattle.machine.specs.declared.Finish.{Finish}
-use Rattle.machine.specs.declared.Finish.the-variants.{Arrived, Emptied, Filled, Stopped}
+use Rattle.machine.specs.declared.Finish.the-variants.{Arrived, Emptied, Filled, Stopped, Crowded}
 use Rattle.places.specs.Layout.{floatsPerPlace, wordsPerPlace, nodeIn, stepIn, parentIn, depthIn}
 
 -- the steps of the chain that ends at place i, the last one as the record of that number, each before it one lower
@@ -39,3 +39,4 @@ Tells floats words (Arrived i) = Tellable floats words i
 Tells floats words Emptied = Unit {0}
 Tells floats words Filled = Unit {0}
 Tells floats words Stopped = Unit {0}
+Tells floats words Crowded = Unit {0}

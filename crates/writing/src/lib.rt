@@ -41,6 +41,8 @@ pub enum Answer {
     Spent { steps: usize },
     // 13: the route is longer than the output.
     Short { steps: usize },
+    // 14: a node needed an entry of the table and every one was used.
+    TableFull { steps: usize },
 }
 
 // The record of the end after a node.
@@ -131,6 +133,7 @@ pub fn tell(trip: Trip, ended: Ended, floats: &[f32], words: &[u32], out: &mut [
         Finish::Emptied => Answer::NotFound { steps },
         Finish::Filled => Answer::Full { steps },
         Finish::Stopped => Answer::Spent { steps },
+        Finish::Crowded => Answer::TableFull { steps },
     }
 }
 
@@ -147,6 +150,7 @@ impl Answer {
             Answer::Full { steps: _ } => Told::Alone(11),
             Answer::Spent { steps: _ } => Told::Alone(12),
             Answer::Short { steps: _ } => Told::Alone(13),
+            Answer::TableFull { steps: _ } => Told::Alone(14),
         }
     }
 
@@ -162,6 +166,7 @@ impl Answer {
             Answer::Full { steps } => steps,
             Answer::Spent { steps } => steps,
             Answer::Short { steps } => steps,
+            Answer::TableFull { steps } => steps,
         }
     }
 }

@@ -1,4 +1,4 @@
-//! Document 01's search with each difference that docs/DIFFERENCES.md lists, of the steps and of the search, as a switch. With
+//! The documents' search with each difference that docs/DIFFERENCES.md lists, of the steps and of the search, as a switch. With
 //! all switches off it must find what `search01` finds, with all on what the Rust finds: then the list is whole.
 
 use std::cmp::Ordering;
@@ -10,12 +10,13 @@ use polyanya::Mesh;
 use crate::floor::{Floor, WALL};
 use crate::floors::Asked;
 use crate::listed::{following, Switches, CHAINED};
-use crate::search01::{length, BUDGET, PLACES};
+use crate::search01::{length, BUDGET, PLACES, STALLED};
 use crate::steps01::{seed, Node};
 
 /// The listed points. A set of them is a number with the bit of each that it holds.
-pub const POINTS: [&str; 13] = [
-    "stall recording",
+pub const POINTS: [&str; 14] = [
+    "the limit of stalls",
+    "last_f from 0",
     "triangles",
     "landing",
     "the new root",
@@ -40,8 +41,10 @@ struct Ways {
     chains: bool,
     /// Of equal f the larger distance goes first, and where that is equal too, what Rust's heap has in front.
     equal_f: bool,
-    /// After as many pops without a higher f as there are polygons, 512 at most, a node that was seen before is dropped.
+    /// Stalls are recorded after as many pops without a higher f as there are polygons, where these are fewer than 512.
     stalls: bool,
+    /// The highest f begins at 0, so that a first pop with f 0 counts as one without a higher f.
+    from_zero: bool,
     /// Ten times as many pops as there are polygons, and any number of places.
     limits: bool,
 }
@@ -63,7 +66,8 @@ fn ways(points: u32) -> Ways {
         steps,
         chains: on("chains in place"),
         equal_f: on("equal f"),
-        stalls: on("stall recording"),
+        stalls: on("the limit of stalls"),
+        from_zero: on("last_f from 0"),
         limits: on("the limits of pops and places"),
     }
 }
@@ -133,17 +137,18 @@ pub fn search(points: u32, floor: &Floor, start: Vec2, goal: Vec2) -> Option<Fou
     let (start_polygon, goal_polygon) = (floor.polygon_of(start)?, floor.polygon_of(goal)?);
     let node = seed(start, start_polygon);
     let origin = Place { node, left: WALL, parent: 0, turned: false, distance: 0.0, heuristic: 0.0 };
+    let ways = ways(points);
     let mut search = Search {
         floor,
         goal,
         goal_polygon,
-        ways: ways(points),
+        ways,
         places: vec![origin],
         queue: BinaryHeap::new(),
         made: Vec::new(),
         records: HashMap::from([(key(start), 0.0)]),
         seen: HashSet::new(),
-        last_f: 0.0,
+        last_f: if ways.from_zero { 0.0 } else { f32::NEG_INFINITY },
         stalled: 0,
         recording: false,
     };
@@ -179,7 +184,7 @@ impl Search<'_> {
 
     /// Whether f went up.
     fn count(&mut self, place: usize) {
-        if !self.ways.stalls || self.recording {
+        if self.recording {
             return;
         }
         let f = self.places[place].distance + self.places[place].heuristic;
@@ -187,7 +192,8 @@ impl Search<'_> {
             (self.last_f, self.stalled) = (f, 0);
         } else {
             self.stalled += 1;
-            self.recording = self.stalled > self.floor.polygons.len().min(512);
+            let limit = if self.ways.stalls { self.floor.polygons.len().min(STALLED) } else { STALLED };
+            self.recording = self.stalled > limit;
         }
     }
 

@@ -1,5 +1,5 @@
-//! The search from document 01's own sentences ("The search"), over the steps of `steps01`. Small and slow: it is there to
-//! say what the document answers on a small floor.
+//! The search from the documents' own sentences (01, "The search", and 02, M-130), over the steps of `steps01`. Small and slow: it
+//! is there to say what the documents answer on a small floor.
 
 use glam::Vec2;
 use polyanya::Mesh;
@@ -11,6 +11,24 @@ use crate::steps01::{enter, seed, steps_from, Node, Step};
 pub const PLACES: usize = 4096;
 /// "The entry without a budget uses 4,096."
 pub const BUDGET: usize = 4096;
+/// The words of an entry, and what stands in each where none is entered.
+pub const ENTRY: usize = 10;
+const UNUSED: u32 = 0xFFFF_FFFF;
+/// "recording once that count is above 512"
+pub const STALLED: usize = 512;
+
+/// What a search may use: the places, the entries of the table, and the steps.
+#[derive(Clone, Copy)]
+pub struct Lends {
+    pub places: usize,
+    pub entries: usize,
+    pub budget: usize,
+}
+
+impl Lends {
+    /// A search pops fewer nodes than there are places, so more entries change no answer.
+    pub const MOST: Lends = Lends { places: PLACES, entries: PLACES, budget: BUDGET };
+}
 
 /// A node that was made.
 struct Place {
@@ -24,11 +42,12 @@ struct Place {
     step: Option<Step>,
 }
 
-/// The number that comes back, the counted steps, and the route on 0.
+/// The number that comes back, the counted steps, the route on 0, and the table where recording began.
 pub struct Answer {
     pub number: u32,
     pub pops: usize,
     pub route: Option<Route>,
+    pub table: Option<Table>,
 }
 
 impl Answer {
@@ -68,6 +87,74 @@ pub fn length(start: Vec2, points: &[Vec2]) -> f32 {
     points.iter().fold((0.0, start), |(total, from), &to| (total + from.distance(to), to)).0
 }
 
+/// The entries of the lent table, once they are laid out.
+pub struct Table(Vec<[u32; ENTRY]>);
+
+/// What comes of a node that is looked up.
+enum Met {
+    New,
+    Seen,
+    /// "a new entry needed and the table full"
+    NoRoom,
+}
+
+impl Table {
+    fn laid_out(entries: usize) -> Table {
+        Table(vec![[UNUSED; ENTRY]; entries])
+    }
+
+    /// "found by a sum that wraps at 32 bits, with collisions settled by comparing all ten", in the next entry, behind the last the first
+    fn enter(&mut self, key: [u32; ENTRY]) -> Met {
+        let sum = key.iter().fold(0, |sum: u32, &word| sum.wrapping_add(word)) as usize;
+        let entries = self.0.len();
+        for turn in 0..entries {
+            let entry = &mut self.0[(sum + turn) % entries];
+            if *entry == key {
+                return Met::Seen;
+            }
+            if entry[ENTRY - 1] == UNUSED {
+                *entry = key;
+                return Met::New;
+            }
+        }
+        Met::NoRoom
+    }
+
+    pub fn words(&self) -> Vec<u32> {
+        self.0.concat()
+    }
+
+    /// How many entries are used.
+    pub fn used(&self) -> usize {
+        self.0.iter().filter(|entry| entry[ENTRY - 1] != UNUSED).count()
+    }
+}
+
+/// "last_f, a count of pops since it last rose, and recording once that count is above 512"
+struct Stall {
+    last_f: f32,
+    pops: usize,
+    entries: usize,
+    table: Option<Table>,
+}
+
+impl Stall {
+    /// Not while recording, which never ends.
+    fn count(&mut self, f: f32) {
+        if self.table.is_some() {
+            return;
+        }
+        if f > self.last_f {
+            (self.last_f, self.pops) = (f, 0);
+            return;
+        }
+        self.pops += 1;
+        if self.pops > STALLED {
+            self.table = Some(Table::laid_out(self.entries));
+        }
+    }
+}
+
 struct Search<'f> {
     floor: &'f Floor,
     goal: Vec2,
@@ -77,11 +164,13 @@ struct Search<'f> {
     /// Places that wait, and each root's least distance.
     queue: Vec<usize>,
     records: Vec<(Vec2, f32)>,
+    stall: Stall,
 }
 
 /// The floor must have passed tests 2 to 6.
-pub fn search(floor: &Floor, start: Vec2, goal: Vec2, lent: usize, budget: usize) -> Answer {
-    let refused = |number| Answer { number, pops: 0, route: None };
+pub fn search(floor: &Floor, start: Vec2, goal: Vec2, lends: Lends) -> Answer {
+    let Lends { places: lent, entries, budget } = lends;
+    let refused = |number| Answer { number, pops: 0, route: None, table: None };
     // "question not 16 bytes, or start or goal coordinate": here it always has the bytes
     if ![start, goal].iter().all(is_in_range) {
         return refused(7);
@@ -94,14 +183,16 @@ pub fn search(floor: &Floor, start: Vec2, goal: Vec2, lent: usize, budget: usize
     let origin =
         Place { node: seed(start, start_polygon), parent: 0, turned: false, distance: 0.0, heuristic: 0.0, step: None };
     let (places, records) = (vec![origin], vec![(start, 0.0)]);
-    let mut search = Search { floor, goal, goal_polygon, lent: lent.min(PLACES), places, queue: Vec::new(), records };
+    // "last_f begins below every f"
+    let stall = Stall { last_f: f32::NEG_INFINITY, pops: 0, entries: entries.min(PLACES), table: None };
+    let mut search = Search { floor, goal, goal_polygon, lent: lent.min(PLACES), places, queue: Vec::new(), records, stall };
     // "Start and goal in one polygon: found, no steps"
     if start_polygon == goal_polygon {
-        return Answer { number: 0, pops: 0, route: Some(search.route(0)) };
+        return Answer { number: 0, pops: 0, route: Some(search.route(0)), table: None };
     }
     let (number, pops) = search.run(budget);
     let route = (number == 0).then(|| search.route(search.queue[0]));
-    Answer { number, pops, route }
+    Answer { number, pops, route, table: search.stall.table }
 }
 
 impl Search<'_> {
@@ -120,10 +211,18 @@ impl Search<'_> {
                 return (12, pops);
             }
             let place = self.pop();
+            self.stall.count(self.f(place));
             let Place { node, distance, .. } = self.places[place];
             // "Dropped if its root has a strictly smaller distance."
             if self.recorded(node.root).is_some_and(|record| record < distance) {
                 continue;
+            }
+            // "after the root test and before the goal test, a popped node whose ten words have been seen is dropped"
+            let key = self.key(place);
+            match self.stall.table.as_mut().map_or(Met::New, |table| table.enter(key)) {
+                Met::New => (),
+                Met::Seen => continue,
+                Met::NoRoom => return (14, pops + 1),
             }
             if node.polygon == self.goal_polygon {
                 self.queue = vec![place];
@@ -138,15 +237,25 @@ impl Search<'_> {
 
     /// "pop the node of least f = distance + heuristic, equal f by lower place"
     fn pop(&mut self) -> usize {
-        let f = |place: usize| self.places[place].distance + self.places[place].heuristic;
         let mut least = 0;
         for (at, &place) in self.queue.iter().enumerate() {
             let best = self.queue[least];
-            if f(place) < f(best) || (f(place) == f(best) && place < best) {
+            if self.f(place) < self.f(best) || (self.f(place) == self.f(best) && place < best) {
                 least = at;
             }
         }
         self.queue.remove(least)
+    }
+
+    fn f(&self, place: usize) -> f32 {
+        self.places[place].distance + self.places[place].heuristic
+    }
+
+    /// "root, interval, edge, polygon left, polygon entered, as bits"
+    fn key(&self, place: usize) -> [u32; ENTRY] {
+        let Place { node: Node { root, interval: (right, left), first, second, polygon, .. }, parent, .. } = self.places[place];
+        let [a, b, c, d, e, f] = [root.x, root.y, right.x, right.y, left.x, left.y].map(f32::to_bits);
+        [a, b, c, d, e, f, first, second, self.places[parent].node.polygon, polygon]
     }
 
     fn recorded(&self, root: Vec2) -> Option<f32> {

@@ -7,22 +7,21 @@ use Rattle.told.specs.declared.Told.{Told}
 use Rattle.told.specs.Told.{numberOf, valuesOf}
 use Rattle.writing.specs.declared.Answer.{Answer}
 use Rattle.writing.specs.Answers.{answerTold, answerSteps}
-use Rattle.places.specs.Layout.{Work}
-use Rattle.search.specs.Whole.{Searched, searchedOf}
+use Rattle.search.specs.Whole.{Lent, Searched, searchedOf}
 use Rattle.cart_c.specs.Handed.{handedOf, handedBy}
 use Rattle.cart_c.specs.Written.{valueWritten}
 use Rattle.cart_c.proofs.cart_search.Statement.{statement}
 use Rattle.cart_c.proofs.cart_search.Tie as tie
 
-module _ (s : Searched) (answer : Answer) (told : Told) (work : Work) (out : List ℕ) (number steps value before : ℕ) where
+module _ (s : Searched) (answer : Answer) (told : Told) (lent : Lent) (out : List ℕ) (number steps value before : ℕ) where
   -- what is told of the answer is what is told of the search
   handed :
-      searchedOf answer work out ≡ s
+      searchedOf answer lent out ≡ s
       → steps ≡ answerSteps answer
       → told ≡ answerTold answer
       → value ≡ valueWritten (valuesOf told) before
       → number ≡ numberOf told
-      → handedOf number work out steps value ≡ handedBy s before
+      → handedOf number lent out steps value ≡ handedBy s before
   unfolding handedBy
   handed searched k t v n = rw (n, k, v, t) (ap (λ x. handedBy x before) searched)
 
@@ -30,7 +29,7 @@ returns : tie.Need-returns
 returns c =
     let at-told = c .before .before .before in
     let at-steps = at-told .before in
-    let at-search = at-steps .before .before .before .before .before .before .before .before .before in
+    let at-search = at-steps .before .before .before .before .before .before .before .before .before .before .before in
     handed _ _ _ _ _ _ _ _ _ (at-search .search .ensures) (at-steps .steps .ensures) (at-told .told .ensures) (c .before .put .ensures) (c .number .ensures)
 
 pub cart-search-spec : {M : Type 1} → statement M
@@ -42,6 +41,7 @@ cart-search-spec =
     (λ c κs. search needs)
     (λ c κs. search needs)
     (λ c κs. search needs)
+    (λ c. search needs)
     (λ c. search needs)
     (λ c. search needs)
     (λ c. search needs)

@@ -11,12 +11,13 @@ returns c =
     let at-put-words = at-put-record .before .before .before .before in
     let at-put-floats = at-put-words .before .before .before .before in
     let at-clear = at-put-floats .before .before .before .before in
-    λ f. rw (at-put-record .put-record .ensures, at-put-floats .put-floats .ensures, at-put-words .put-words .ensures, at-clear .clear .ensures .0)
+    λ f. rw (at-put-record .put-record .ensures, at-put-floats .put-floats .ensures, at-put-words .put-words .ensures, at-clear .clear .ensures)
 
 pub plant-spec : {M : Type 1} → statement M
 plant-spec =
     tie.close
     (tie.spec
+    (λ c. search needs)
     (λ c κs. search needs)
     (λ c κs. search needs)
     (λ c κs. search needs)

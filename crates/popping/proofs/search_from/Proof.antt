@@ -8,25 +8,25 @@ use Rattle.popping.proofs.search_from.Tie as tie
 -- ---- places, the first first
 
 abbrev start : tie.After-set-out → tie.Start
-start c = c .before .before .before .before .before .before .before .before .before
+start c = c .before .before .before .before .before .before .before .before .before .before
 
 abbrev made : tie.After-counts → tie.After-set-out
 made c = c .before .before .before .before .before .before .before
 
 -- not full
-abbrev onward : tie.After-run-arg3 → tie.Else1
-onward c = c .before .before .before
+abbrev onward : tie.After-run-arg4 → tie.Else1
+onward c = c .before .before .before .before
 
-abbrev ran : tie.After-slice-known9 → tie.After-run
-ran c = c .before .before .before .before .before .before
+abbrev ran : tie.After-slice-known11 → tie.After-run
+ran c = c .before .before .before .before .before .before .before .before
 
-abbrev lasting : tie.After-slice-known9 → tie.Else1
+abbrev lasting : tie.After-slice-known11 → tie.Else1
 lasting c = onward (ran c .before)
 
 -- ---- the needs
 
 returns : tie.Need-returns
-returns c = let m = made (c .before) in searches-full (start m .pre) (m .set-out .ensures) _ (c .if1 .taken)
+returns c = let m = made (c .before) in searches-full (start m .pre) (m .set-out .ensures) _ _ (c .if1 .taken)
 
 run-requires : tie.Need-run-requires
 run-requires c κs =
@@ -37,7 +37,7 @@ run-requires c κs =
 returns-2 : tie.Need-returns-2
 returns-2 c =
     let m = made (lasting c .before) in
-    searches-on (start m .pre) (m .set-out .ensures) _ (lasting c .if1 .left) (ran c .run .ensures)
+    searches-on (start m .pre) (m .set-out .ensures) _ _ (lasting c .if1 .left) (ran c .run .ensures)
 
 pub search-from-spec : {M : Type 1} → statement M
 search-from-spec =
@@ -52,4 +52,5 @@ search-from-spec =
     (λ c. search (needs, made (lasting c .before) .set-out))
     (λ c. search (needs, made (lasting c .before) .set-out))
     (λ c. search (needs, made (lasting c .before) .set-out))
+    (λ c. search needs)
     returns-2)

@@ -15,10 +15,15 @@ slice-aggregate-search-2 c = sym (length-take-le _ _ (omega arith))
 slice-aggregate-search-3 : tie.Need-slice-aggregate-search-3
 slice-aggregate-search-3 c = sym (length-take-le _ _ (omega arith))
 
+slice-aggregate-search-4 : tie.Need-slice-aggregate-search-4
+slice-aggregate-search-4 c = sym (length-take-le _ _ (omega arith))
+
 pub search-with-spec : {M : Type 1} → statement M
 search-with-spec =
     tie.close
     (tie.spec
+    (λ c κs. search needs)
+    (λ c κs. search needs)
     (λ c κs. search needs)
     (λ c κs. search needs)
     (λ c κs. search needs)
@@ -32,6 +37,9 @@ search-with-spec =
     (λ c. search needs)
     (λ c. search needs)
     slice-aggregate-search-3
+    (λ c. search needs)
+    (λ c. search needs)
+    slice-aggregate-search-4
     (λ c κs. search needs)
     (λ c. search needs)
     (λ c. search needs))

@@ -13,11 +13,11 @@ abbrev counted : tie.Else1 → tie.After-places-in
 counted c = c .before
 
 -- behind the route, and before it
-abbrev routed : tie.After-slice-known8 → tie.After-route-from
-routed c = c .before .before .before .before .before .before .before .before
+abbrev routed : tie.After-slice-known10 → tie.After-route-from
+routed c = c .before .before .before .before .before .before .before .before .before .before
 
-abbrev some : tie.After-route-from-arg4 → tie.Else1
-some c = c .before .before .before .before
+abbrev some : tie.After-route-from-arg5 → tie.Else1
+some c = c .before .before .before .before .before
 
 -- ---- no place
 
@@ -41,4 +41,4 @@ pub route-between-spec : {M : Type 1} → statement M
 route-between-spec =
     tie.close
     (tie.spec (λ c κs. search needs) (λ c. search needs) (λ c. search needs) (λ c. search needs) returns route-from-requires (λ c. search needs)
-    (λ c. search needs) (λ c. search needs) (λ c. search needs) returns-2)
+    (λ c. search needs) (λ c. search needs) (λ c. search needs) (λ c. search needs) returns-2)

@@ -8,17 +8,17 @@ use Rattle.search.proofs.route_from.Tie as tie
 -- ---- places
 
 -- in two polygons, then behind the search between them, then before its answer is told
-abbrev apart : tie.After-search-from-arg3 → tie.Else1
-apart c = c .before .before .before
+abbrev apart : tie.After-search-from-arg4 → tie.Else1
+apart c = c .before .before .before .before
 
-abbrev searched : tie.After-slice-known8 → tie.After-search-from
-searched c = c .before .before .before .before .before .before
+abbrev searched : tie.After-slice-known10 → tie.After-search-from
+searched c = c .before .before .before .before .before .before .before .before
 
 abbrev telling : tie.After-tell-arg3 → tie.After-search-from
 telling c = searched (c .before .before .before)
 
 abbrev start : tie.Else1 → tie.Start
-start c = c .before .before .before .before .before .before .before .before .before
+start c = c .before .before .before .before .before .before .before .before .before .before
 
 -- ---- one polygon
 
@@ -45,16 +45,16 @@ tell-requires : tie.Need-tell-requires
 tell-requires c κs =
     let by = telling c in
     let h = start (apart (by .before)) .pre in
-    routes-told _ _ _ _ _ _ (h .0 .0) (h .1 .0 .0) (h .1 .0 .1) (h .0 .1) _ (by .search-from .ensures)
+    routes-told _ _ _ _ _ _ _ (h .0 .0) (h .1 .0 .0) (h .1 .0 .1) (h .0 .1) _ _ (by .search-from .ensures)
 
 returns-2 : tie.Need-returns-2
 returns-2 c =
     let told = c .before .before in
     let by = telling (told .before) in
-    routes-search _ _ _ _ _ (apart (by .before) .if1 .left) _ (by .search-from .ensures) (told .tell .ensures .0 _) (told .tell .ensures .1 _)
+    routes-search _ _ _ _ _ (apart (by .before) .if1 .left) _ _ (by .search-from .ensures) (told .tell .ensures .0 _) (told .tell .ensures .1 _)
 
 pub route-from-spec : {M : Type 1} → statement M
 route-from-spec =
     tie.close
-    (tie.spec (λ c κs. search needs) (λ c. search needs) returns search-from-requires tell-requires (λ c. search needs) (λ c. search needs)
+    (tie.spec (λ c κs. search needs) (λ c. search needs) returns search-from-requires tell-requires (λ c. search needs) (λ c. search needs) (λ c. search needs)
     (λ c. search needs) (λ c. search needs) returns-2)

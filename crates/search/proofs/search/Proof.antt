@@ -14,11 +14,11 @@ abbrev looked : tie.After-enum-told → tie.After-look-at-floor
 looked c = c .before .before
 
 -- behind the search, and before it
-abbrev searched : tie.After-slice-known8 → tie.After-search-on
-searched c = c .before .before .before .before .before .before .before .before
+abbrev searched : tie.After-slice-known10 → tie.After-search-on
+searched c = c .before .before .before .before .before .before .before .before .before .before
 
-abbrev planned : tie.After-search-on-arg4 → tie.After-enum-told
-planned c = c .before .before .before .before .before
+abbrev planned : tie.After-search-on-arg5 → tie.After-enum-told
+planned c = c .before .before .before .before .before .before
 
 -- ---- accepted
 
@@ -45,4 +45,4 @@ pub search-spec : {M : Type 1} → statement M
 search-spec =
     tie.close
     (tie.spec (λ c κs. search needs) (λ c. search needs) search-on-requires (λ c. search needs) (λ c. search needs) (λ c. search needs)
-    (λ c. search needs) (λ c. search needs) returns returns-2)
+    (λ c. search needs) (λ c. search needs) (λ c. search needs) returns returns-2)

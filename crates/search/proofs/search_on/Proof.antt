@@ -14,7 +14,7 @@ use Rattle.search.proofs.search_on.Tie as tie
 -- ---- places
 
 abbrev start : tie.After-ask → tie.Start
-start c = c .before .before .before .before .before .before .before .before
+start c = c .before .before .before .before .before .before .before .before .before
 
 -- behind the question, which is about places on the floor
 abbrev asked : tie.After-from → tie.After-ask
@@ -28,11 +28,11 @@ abbrev tripped : tie.After-of → tie.After-from
 tripped c = told (c .before)
 
 -- behind the route, and before it
-abbrev routed : tie.After-slice-known8 → tie.After-route-between
-routed c = c .before .before .before .before .before .before .before .before
+abbrev routed : tie.After-slice-known10 → tie.After-route-between
+routed c = c .before .before .before .before .before .before .before .before .before .before
 
-abbrev tripping : tie.After-route-between-arg4 → tie.After-of
-tripping c = c .before .before .before .before
+abbrev tripping : tie.After-route-between-arg5 → tie.After-of
+tripping c = c .before .before .before .before .before
 
 -- ---- what is known of the question
 
@@ -75,4 +75,4 @@ pub search-on-spec : {M : Type 1} → statement M
 search-on-spec =
     tie.close
     (tie.spec (λ c κs. search needs) (λ c. search needs) cast-of cast-of-2 (λ c κs. known (told c) .long) route-between-requires (λ c. search needs)
-    (λ c. search needs) (λ c. search needs) (λ c. search needs) (λ c. search needs) returns returns-2)
+    (λ c. search needs) (λ c. search needs) (λ c. search needs) (λ c. search needs) (λ c. search needs) returns returns-2)

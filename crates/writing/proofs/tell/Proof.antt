@@ -3,7 +3,7 @@ use borrow.Author.Needs.{needs}
 use denote.Ref.{now}
 use mathlib.Core.Path.{subst}
 use Rattle.writing.specs.Writing.{Tells}
-use Rattle.writing.proofs.Written.{told-arrived, told-emptied, told-filled, told-stopped}
+use Rattle.writing.proofs.Written.{told-arrived, told-emptied, told-filled, told-stopped, told-crowded}
 use Rattle.writing.proofs.tell.Statement.{statement}
 use Rattle.writing.proofs.tell.Tie as tie
 
@@ -40,8 +40,11 @@ returns-3 c = told-filled _ _ _ _ _ _ (c .enum-told2 .given .1)
 returns-4 : tie.Need-returns-4
 returns-4 c = told-stopped _ _ _ _ _ _ (c .enum-told3 .given .1)
 
+returns-5 : tie.Need-returns-5
+returns-5 c = told-crowded _ _ _ _ _ _ (c .enum-told4 .given .1)
+
 pub tell-spec : {M : Type 1} → statement M
 tell-spec =
     tie.close
-    (tie.spec (λ c. search needs) write-route-requires (λ c. search needs) (λ c. search needs) (λ c. search needs) (λ c. search needs) returns returns-2
-    returns-3 returns-4)
+    (tie.spec (λ c. search needs) write-route-requires (λ c. search needs) (λ c. search needs) (λ c. search needs) (λ c. search needs)
+    (λ c. search needs) returns returns-2 returns-3 returns-4 returns-5)

@@ -33,8 +33,12 @@ returns-7 : tie.Need-returns-7
 unfolding answerSteps
 returns-7 c = rw (c .before .self5 .given .1) refl
 
+returns-8 : tie.Need-returns-8
+unfolding answerSteps
+returns-8 c = rw (c .before .self6 .given .1) refl
+
 pub steps-spec : {M : Type 1} → statement M
 steps-spec =
     tie.close
     (tie.spec (λ c. search needs) (λ c. search needs) (λ c. search needs) (λ c. search needs) (λ c. search needs) (λ c. search needs)
-    (λ c. search needs) returns returns-2 returns-3 returns-4 returns-5 returns-6 returns-7)
+    (λ c. search needs) (λ c. search needs) returns returns-2 returns-3 returns-4 returns-5 returns-6 returns-7 returns-8)

@@ -33,9 +33,13 @@ returns-7 : tie.Need-returns-7
 unfolding answerTold
 returns-7 c = rw (c .enum-told5 .given .1) refl
 
+returns-8 : tie.Need-returns-8
+unfolding answerTold
+returns-8 c = rw (c .enum-told6 .given .1) refl
+
 pub told-spec : {M : Type 1} → statement M
 told-spec =
     tie.close
     (tie.spec (λ c. search needs) (λ c. search needs) (λ c. search needs) (λ c κs. search needs) (λ c. search needs) (λ c. search needs)
-    (λ c. search needs)
-    (λ c. search needs) returns returns-2 returns-3 returns-4 returns-5 returns-6 returns-7)
+    (λ c. search needs) (λ c. search needs)
+    (λ c. search needs) returns returns-2 returns-3 returns-4 returns-5 returns-6 returns-7 returns-8)

@@ -109,12 +109,6 @@ impl Counts {
         (agreed.map(|(_, count)| count).sum(), self.outcomes.values().sum())
     }
 
-    /// On how many questions the Rust alone finds a route, and stall recording alone gives ours.
-    pub fn stalled(&self) -> usize {
-        let stalls = (Outcome::OnlyRusts, 1 << POINTS.iter().position(|&point| point == "stall recording").expect("a listed point"));
-        self.causes.get(&stalls).copied().unwrap_or_default()
-    }
-
     /// Answers on how many questions the list was not whole.
     pub fn print(&self) -> usize {
         println!("  beside the unchanged Rust, where both points are on the floor and nothing is short:");

@@ -1,5 +1,5 @@
-//! The whole search on random questions: ours beside document 01's own sentences (search01), number, counted steps and route
-//! bytes; every route that is found goes to our judge; and its length is held beside the unchanged Rust's.
+//! The whole search on random questions: ours beside the documents' own sentences (search01), number, counted steps, route bytes and
+//! the table's words; every route that is found goes to our judge; and its length is held beside the unchanged Rust's.
 
 use glam::Vec2;
 use harness::chunks::counted;
@@ -9,7 +9,7 @@ use harness::halls::{Halls, Shape, SHAPES};
 use harness::random::Random;
 use harness::search01::{search, BUDGET};
 
-use crate::cart::{self, MOST_NODES, ROUTE_BYTES};
+use crate::cart::{self, ENTRY_WORDS, MOST_NODES, ROUTE_BYTES};
 use crate::lengths::{Counts as RouteLengths, Ends};
 use crate::lent::{Lengths, Lent, Told};
 use crate::{Sum, SHOWN};
@@ -32,7 +32,9 @@ const CLASSES: usize = SHAPES.len() + 1;
 #[derive(Default)]
 struct Counts {
     questions: usize,
-    numbers: [usize; 14],
+    numbers: [usize; 15],
+    /// Recording began.
+    stalled: usize,
     steps: usize,
     /// Routes that the judge did not accept.
     refused: usize,
@@ -46,6 +48,7 @@ impl Counts {
     fn add(&mut self, other: Counts) {
         self.questions += other.questions;
         self.numbers.iter_mut().zip(other.numbers).for_each(|(sum, count)| *sum += count);
+        self.stalled += other.stalled;
         self.steps += other.steps;
         self.refused += other.refused;
         self.differ += other.differ;
@@ -64,8 +67,8 @@ pub fn compare(threads: usize) -> Sum {
         let (agreed, of) = counts.lengths.agreed();
         let name = described(class);
         lines.push(format!("  {name}: {questions} questions, {steps} steps, {} found, {refused} refused by the judge, {differ} differ", numbers[0]));
-        let stalled = counts.lengths.stalled();
-        lines.push(format!("    {agreed} of {of} end as the unchanged Rust does, to the bit of the length; {stalled} would with stall recording alone"));
+        let stalled = counts.stalled;
+        lines.push(format!("    {stalled} stalled; {agreed} of {of} end as the unchanged Rust does, to the bit of the length"));
         all.add(counts);
     }
     println!("{:<24}{:>12}{:>12}{:>12}", NAME, 0, all.questions, all.differ + all.refused);
@@ -121,12 +124,14 @@ fn compare_chunk(class: usize, chunk: usize, lent: &mut Lent, counts: &mut Count
     }
 }
 
-/// The budget, the places and the room for the route: three times in four all that there is.
+/// The budget, the places, the table and the room for the route: three times in four all that there is.
 fn lends(random: &mut Random) -> (usize, Lengths) {
-    match random.below(12) {
+    match random.below(20) {
         0 => (random.below(40), Lengths::MOST),
         1 => (BUDGET, Lengths::of(random.below(60), ROUTE_BYTES)),
         2 => (BUDGET, Lengths::of(MOST_NODES, random.below(400))),
+        3 => (BUDGET, Lengths { table: random.below(40 * ENTRY_WORDS), ..Lengths::MOST }),
+        4 => (512 + random.below(400), Lengths { table: ENTRY_WORDS * random.below(4), ..Lengths::MOST }),
         _ => (BUDGET, Lengths::MOST),
     }
 }
@@ -141,17 +146,19 @@ fn compare_question(
     counts: &mut Counts,
 ) {
     let asked = question(start, goal);
-    let answer = search(floor, start, goal, lengths.places(), budget);
-    let by_document = Told::by_document(&answer, lengths.out);
+    let answer = search(floor, start, goal, lengths.lends(budget));
+    let by_document = Told::by_document(&answer, &lengths);
     let ours = lent.told(stored, &asked, budget, &lengths);
     lent.paint();
     counts.questions += 1;
     counts.numbers[by_document.number as usize] += 1;
+    counts.stalled += answer.table.is_some() as usize;
     counts.steps += by_document.steps;
     counts.refused += (ours.number == 0 && cart::judge(stored, &asked, &ours.route).number != 0) as usize;
     if ours != by_document {
         counts.differ += 1;
-        let text = format!("  {start:?} to {goal:?}, budget {budget}, {} places, room {}, on {floor:?}", lengths.places(), lengths.out);
+        let Lengths { table, out, .. } = lengths;
+        let text = format!("  {start:?} to {goal:?}, budget {budget}, {} places, table {table}, room {out}, on {floor:?}", lengths.places());
         counts.differences.push(format!("{text}\n    01:   {by_document:?}\n    ours: {ours:?}"));
     }
     let whole = (budget, lengths) == (BUDGET, Lengths::MOST);

@@ -2,17 +2,19 @@
 
 use glam::Vec2;
 use harness::floor::Floor;
-use harness::search01::{search, Answer, BUDGET, PLACES};
+use harness::search01::{search, Answer, Lends};
 
 use crate::text::{self, asked, at, counted, floor, walled};
 use crate::{Shown, RULE};
 
 pub fn shown() -> Vec<Shown> {
-    vec![example(), far(), chain(), to_and_fro(), wall(), larger_distance(), heap(), stall(), limit()]
+    vec![example(), far(), chain(), to_and_fro(), wall(), larger_distance(), heap(), stall(), stall_in_pieces(), limit()]
 }
 
 /// More pops than a search here needs that ends.
 const MANY: usize = 10_000;
+/// What the route program lends.
+const PROGRAMS: Lends = Lends { places: 2047, entries: 2047, ..Lends::MOST };
 
 fn place(floor: &Floor, point: Vec2) -> (Vec2, u32) {
     (point, floor.polygon_of(point).expect("a point on the floor"))
@@ -26,7 +28,7 @@ fn question(name: &'static str, floor: &Floor, start: Vec2, goal: Vec2, with_edg
     let (popped, path) = floor.mesh().searched(from, to, None, 10 * floor.polygons.len());
     assert_eq!(path, floor.mesh().path_between(from, to), "{name}");
     let mut rust = text::path(popped.len(), path);
-    let answer = search(floor, start, goal, PLACES, BUDGET);
+    let answer = search(floor, start, goal, Lends::MOST);
     let mut ours = of_answer(&answer);
     if with_edge {
         let ([_, _, first, second], _, _) = popped[popped.len() - 1];
@@ -49,7 +51,7 @@ fn of_answer(answer: &Answer) -> String {
 fn example() -> Shown {
     let floor = floor(&[(0.0, 0.0), (2.0, 0.0), (4.0, 0.0), (4.0, 2.0), (2.0, 2.0), (0.0, 2.0)], &[&[0, 1, 4, 5], &[1, 2, 3, 4]]);
     let (start, goal) = (at(1.0, 1.0), at(3.0, 1.0));
-    let steps = search(&floor, start, goal, PLACES, BUDGET).route.expect("a route").steps;
+    let steps = search(&floor, start, goal, Lends::MOST).route.expect("a route").steps;
     let words: Vec<[u32; 8]> = steps.iter().map(|step| step.words()).collect();
     assert_eq!(words, [[2, 1, 1, 4, 0x4000_0000, 0, 0x4000_0000, 0x4000_0000]]);
     Shown { agreed: true, ..question("Document 01's example", &floor, start, goal, false) }
@@ -118,9 +120,24 @@ fn stall() -> Shown {
         &[&[0, 1, 2, 3], &[0, 3, 4, 5], &[0, 5, 6, 1], &[1, 7, 2]],
     );
     let (start, goal) = (at(0.0, 0.0), at(2.0, -1.0));
-    let shown = question("Stall recording", &floor, start, goal, false);
+    let shown = question("The limit of stalls", &floor, start, goal, false);
     let (popped, path) = floor.mesh().searched(place(&floor, start), place(&floor, goal), Some(u32::MAX), MANY);
     Shown { rust: format!("{} (without recording: {})", shown.rust, text::path(popped.len(), path)), ..shown }
+}
+
+/// The same, with each border of two of the three in three pieces: by the time that ours begins to record, the program's places are used up.
+fn stall_in_pieces() -> Shown {
+    let floor = floor(
+        &[
+            (0.0, 0.0), (1.0, 0.0), (2.0, 0.0), (3.0, 0.0), (0.0, 1.0), (0.0, 2.0), (0.0, 3.0), (-1.0, -1.0), (-2.0, -2.0), (-3.0, -3.0), (3.0, 3.0),
+            (-3.0, 3.0), (3.0, -3.0), (6.0, -3.0),
+        ],
+        &[&[0, 1, 2, 3, 10, 6, 5, 4], &[0, 4, 5, 6, 11, 9, 8, 7], &[0, 7, 8, 9, 12, 3, 2, 1], &[3, 13, 10]],
+    );
+    let (start, goal) = (at(0.0, 0.0), at(6.0, -3.0));
+    let shown = question("The limit of stalls: the answer", &floor, start, goal, false);
+    let with_less = of_answer(&search(&floor, start, goal, PROGRAMS));
+    Shown { ours: format!("{} (with 2,047 places: {with_less})", shown.ours), ..shown }
 }
 
 /// Polygons that lie over each other, as no test forbids.

@@ -2,7 +2,7 @@
 
 use glam::Vec2;
 use harness::floor::Floor;
-use harness::search01::{BUDGET, PLACES};
+use harness::search01::Lends;
 
 use crate::drawn::drawn;
 use crate::Case;
@@ -13,13 +13,13 @@ const ROOM: usize = 32 * 4097;
 const CELL: Vec2 = Vec2::new(2.0, 2.0);
 
 pub fn all() -> Vec<Case> {
-    [along(), around(), between_rooms(), wide(), lent(), refused()].into_iter().flatten().collect()
+    [along(), around(), between_rooms(), wide(), lent(), refused(), stalled()].into_iter().flatten().collect()
 }
 
 /// A case with all that can be lent.
 fn case(name: &'static str, floor: Floor, start: (f32, f32), goal: (f32, f32)) -> Case {
     let [start, goal] = [start, goal].map(|(x, y)| Vec2::new(x, y));
-    Case { name, floor, start, goal, places: PLACES, budget: BUDGET, room: ROOM }
+    Case { name, floor, start, goal, lends: Lends::MOST, room: ROOM }
 }
 
 /// Document 01's whole example.
@@ -112,12 +112,12 @@ fn lent() -> Vec<Case> {
     let asked = |name| case(name, zigzag(), (0.5, 0.5), (0.5, 9.5));
     let crate::Expected { steps, route, .. } = crate::expected(&asked("with all there is"));
     vec![
-        Case { places: 8, ..asked("too few places") },
-        Case { places: 1, ..asked("a place for the seed alone") },
-        Case { places: 0, ..asked("no place") },
-        Case { budget: steps, ..asked("a budget that is just enough") },
-        Case { budget: steps - 1, ..asked("a budget a step short") },
-        Case { budget: 0, ..asked("no budget") },
+        Case { lends: Lends { places: 8, ..Lends::MOST }, ..asked("too few places") },
+        Case { lends: Lends { places: 1, ..Lends::MOST }, ..asked("a place for the seed alone") },
+        Case { lends: Lends { places: 0, ..Lends::MOST }, ..asked("no place") },
+        Case { lends: Lends { budget: steps, ..Lends::MOST }, ..asked("a budget that is just enough") },
+        Case { lends: Lends { budget: steps - 1, ..Lends::MOST }, ..asked("a budget a step short") },
+        Case { lends: Lends { budget: 0, ..Lends::MOST }, ..asked("no budget") },
         Case { room: route.len(), ..asked("room that is just enough") },
         Case { room: route.len() - 1, ..asked("room a byte short") },
         Case { room: 0, ..asked("no room") },
@@ -128,5 +128,40 @@ fn refused() -> Vec<Case> {
     vec![
         case("a start in a pillar", hall(), (5.0, 5.0), (43.5, 30.75)),
         case("a goal off the floor", hall(), (0.25, 0.5), (-0.25, 0.5)),
+    ]
+}
+
+/// As in docs/DIFFERENCES.md: three quadrilaterals round the start, which the search goes round and round.
+fn round_the_start() -> Floor {
+    let points = [(0.0, 0.0), (1.0, 0.0), (1.0, 1.0), (0.0, 1.0), (-1.0, 1.0), (-1.0, -1.0), (1.0, -1.0), (2.0, -1.0)];
+    let vertices = points.iter().map(|&(x, y)| Vec2::new(x, y)).collect();
+    Floor::linked(vertices, &[vec![0, 1, 2, 3], vec![0, 3, 4, 5], vec![0, 5, 6, 1], vec![1, 7, 2]])
+}
+
+/// As in examples/floors/stall: the wall between the upper two rooms has no thickness, and two openings.
+fn three_rooms() -> Floor {
+    let rows: [(f32, &[f32]); 4] = [(0.0, &[0.0, 10.0]), (4.0, &[0.0, 1.0, 10.0]), (8.0, &[0.0, 4.0, 6.0, 10.0]), (12.0, &[0.0, 10.0])];
+    let vertices = rows.iter().flat_map(|&(y, row)| row.iter().map(move |&x| Vec2::new(x, y))).collect();
+    let mut floor = Floor::linked(vertices, &[vec![5, 6, 7, 8, 10, 9], vec![2, 3, 4, 8, 7, 6, 5], vec![0, 1, 4, 3, 2]]);
+    floor.wall_up(6, 7);
+    floor.wall_up(3, 4);
+    floor
+}
+
+/// Searches that stall, with all that can be lent and with less.
+fn stalled() -> Vec<Case> {
+    let asked = |name| case(name, round_the_start(), (0.0, 0.0), (2.0, -1.0));
+    let whole = asked("a ring round the start");
+    let answer = crate::answered(&whole);
+    let entries = answer.table.expect("a search that stalls").used();
+    let begun = 514;
+    vec![
+        whole,
+        Case { lends: Lends { entries, ..Lends::MOST }, ..asked("a table that is just enough") },
+        Case { lends: Lends { entries: entries - 1, ..Lends::MOST }, ..asked("a table an entry short") },
+        Case { lends: Lends { entries: 0, ..Lends::MOST }, ..asked("no table") },
+        Case { lends: Lends { entries: 0, budget: begun - 1, ..Lends::MOST }, ..asked("a budget that is spent before") },
+        Case { lends: Lends { budget: answer.pops, ..Lends::MOST }, ..asked("a stalled search's own budget") },
+        case("two openings in a thin wall", three_rooms(), (3.0, 9.0), (9.0, 3.0)),
     ]
 }

@@ -1,15 +1,15 @@
-//! Stored routes for tests that have no Rust at hand: floors and questions, and what document 01 answers on each, as `search01`
+//! Stored routes for tests that have no Rust at hand: floors and questions, and what the documents answer on each, as `search01`
 //! has it. `routes cases` writes them as crates/routes reads them, and `routes lines` the lines that it must then write.
 //!
-//! A case is ten little-endian words: the bytes of its name, of the vertex list, the polygon list and the question; the places,
-//! the budget and the bytes of room that are lent; the number, the counted steps and the route's bytes that must come back. Then
-//! the name, the two lists, the question and the route follow.
+//! A case is eleven little-endian words: the bytes of its name, of the vertex list, the polygon list and the question; the places,
+//! the entries of the table, the budget and the bytes of room that are lent; the number, the counted steps and the route's bytes that
+//! must come back. Then the name, the two lists, the question and the route follow.
 
 use std::io::{self, Write};
 
 use glam::Vec2;
 use harness::floor::{question, Floor};
-use harness::search01;
+use harness::search01::{self, Lends};
 
 mod cases;
 mod drawn;
@@ -19,8 +19,7 @@ pub struct Case {
     pub floor: Floor,
     pub start: Vec2,
     pub goal: Vec2,
-    pub places: usize,
-    pub budget: usize,
+    pub lends: Lends,
     pub room: usize,
 }
 
@@ -49,9 +48,13 @@ fn main() -> io::Result<()> {
     out.flush()
 }
 
-fn expected(case: &Case) -> Expected {
+fn answered(case: &Case) -> search01::Answer {
     assert_eq!(case.floor.refused(), 0, "{}", case.name);
-    let answer = search01::search(&case.floor, case.start, case.goal, case.places, case.budget);
+    search01::search(&case.floor, case.start, case.goal, case.lends)
+}
+
+fn expected(case: &Case) -> Expected {
+    let answer = answered(case);
     let (number, route) = answer.written(case.room);
     Expected { number, steps: answer.pops, route }
 }
@@ -59,7 +62,8 @@ fn expected(case: &Case) -> Expected {
 fn write_case(out: &mut dyn Write, case: &Case, expected: &Expected) -> io::Result<()> {
     let (vertices, polygons) = case.floor.bytes();
     let question = question(case.start, case.goal);
-    let lent = [case.places, case.budget, case.room];
+    let Lends { places, entries, budget } = case.lends;
+    let lent = [places, entries, budget, case.room];
     let answered = [expected.number as usize, expected.steps, expected.route.len()];
     let lengths = [case.name.len(), vertices.len(), polygons.len(), question.len()];
     for word in lengths.into_iter().chain(lent).chain(answered) {
@@ -91,6 +95,7 @@ fn words(number: u32) -> &'static str {
         11 => "the room for nodes is used up",
         12 => "the budget of steps is spent",
         13 => "the output is too short",
+        14 => "the search stalled, and its table is full",
         _ => panic!("no case has {number}"),
     }
 }

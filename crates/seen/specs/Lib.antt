@@ -1,0 +1,3 @@
+-- The table of nodes that a stalled search has met: where its words lie, and what it holds.
+pub mod Table
+pub mod Kept
