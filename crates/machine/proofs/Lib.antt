@@ -12,3 +12,4 @@ pub mod Places
 pub mod Room
 pub mod Exact
 pub mod Never
+pub mod Dropped
