@@ -1,3 +1,4 @@
+#![tactic(auto)]
 // The search, the judge and the read-out for a controller's firmware. A slice goes to C as its pointer and its length, a `&mut`
 // as a pointer; the header include/cart.h has a word on each function. Each takes any bytes, keeps nothing between calls and
 // calls nothing outside.

@@ -2,7 +2,7 @@
 use Prim.Native.Nat.{ℕ}
 use native.Mathlib.Omega.{arith}
 use mathlib.Core.Path.{◌≡◌, refl, sym, ◌∙◌}
-use mathlib.Core.Bool.{Bool, true, false, cond, or_true}
+use mathlib.Core.Bool.{Bool, true, false, cond, or-true}
 use mathlib.Core.Logic.{◌⊎◌, inl, inr, ◌↔◌}
 use lib.Ieee.{Float, nan, inf, fin, lt}
 use Rattle.point.specs.declared.Point.{Point}
@@ -32,7 +32,7 @@ pub clip_short_ray : (root : Point) (cone segment : Segment)
     → (lt (right_length root cone) slack ≡ true) ⊎ (lt (left_length root cone) slack ≡ true) → clip_to_cone_of root cone segment ≡ Seen segment
 unfolding clip_to_cone_of clip_of has_short_ray_of cone_of ray_of
 clip_short_ray root cone segment (inl short) = rw short
-clip_short_ray root cone segment (inr short) = rw (short, or_true (lt (right_length root cone) slack))
+clip_short_ray root cone segment (inr short) = rw (short, or-true (lt (right_length root cone) slack))
 
 -- ---- NaN
 

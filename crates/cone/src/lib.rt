@@ -1,3 +1,4 @@
+#![tactic(auto)]
 // The port of clip_to_cone and lands_on of vleue/polyanya's src/instance.rs: what a node sees of a segment behind its
 // interval, and whether an interval's end is a vertex.
 
@@ -9,14 +10,14 @@ ghost use Rattle.cone.specs.Landing.{lands_on_of};
 use point::{Point, Segment};
 
 // What is seen of a segment.
-#[derive(Drop)]
+#[derive(Clone, Copy)]
 pub enum Clipped {
     Seen(Segment),
     Nothing,
 }
 
 // The way from a root to an end of its interval. Its length is worked out once.
-#[derive(Drop)]
+#[derive(Clone, Copy)]
 pub struct Ray {
     pub along: Point,
     pub length: f32,
@@ -24,7 +25,7 @@ pub struct Ray {
 
 // What a root sees through its interval, between the rays to the interval's ends. One cone serves every segment that is
 // clipped to it.
-#[derive(Drop)]
+#[derive(Clone, Copy)]
 pub struct Cone {
     pub root: Point,
     pub right: Ray,
@@ -32,14 +33,14 @@ pub struct Cone {
 }
 
 // A part of a segment, from one fraction of it to another.
-#[derive(Drop)]
+#[derive(Clone, Copy)]
 struct Part {
     lo: f32,
     hi: f32,
 }
 
 // What a ray leaves of a part.
-#[derive(Drop)]
+#[derive(Clone, Copy)]
 enum Cut {
     Kept(Part),
     Away,

@@ -1,3 +1,4 @@
+#![tactic(auto)]
 // The clip to a cone and the landing on a vertex for C, on f32 bit patterns, as geometry_c has the rest of the geometry.
 
 ghost use Rattle.std.specs.Prelude.{◌≡◌};

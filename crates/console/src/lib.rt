@@ -1,3 +1,4 @@
+#![tactic(auto)]
 // What the programs share: room for each file, a file or standard input read whole into it, a verdict, or a search with no
 // route, said in one line, and standard output that says when it fails.
 

@@ -1,3 +1,4 @@
+#![tactic(auto)]
 // The cuts of edges_between of vleue/polyanya's src/instance.rs: where a node's two rays cut an edge, and how what comes
 // behind a cut is seen.
 
@@ -9,7 +10,7 @@ use helpers::Crossing;
 use point::{EdgeSide, Point, Segment};
 
 // How an interval is seen from the root.
-#[derive(Drop)]
+#[derive(Clone, Copy)]
 pub enum SuccessorType {
     LeftNonObservable,
     Observable,
@@ -17,7 +18,7 @@ pub enum SuccessorType {
 }
 
 // Where a ray cuts an edge, if it does, and the kind from there on.
-#[derive(Drop)]
+#[derive(Clone, Copy)]
 pub struct Cut {
     pub at: Crossing,
     pub kind: SuccessorType,

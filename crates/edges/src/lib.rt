@@ -1,3 +1,4 @@
+#![tactic(auto)]
 // The edges of an accepted floor: which polygon a point is in, by the side of each edge that it is on, and which vertices turn,
 // by being on a wall edge.
 

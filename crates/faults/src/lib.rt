@@ -1,3 +1,4 @@
+#![tactic(auto)]
 // The tests 2 to 7, each of one list, one record or the question. 7 is defined here; its code is `question_right` in the crate floor,
 // which asks `point_right` of start and goal.
 

@@ -21,6 +21,7 @@ use Rattle.float.proofs.Fraction.{lt_over, eq_over}
 -- ---- what it says of `fin s m e` to fit
 
 one_is_low : (u d : ℕ) → 0 < u → u * d ≡ 1 → d ≤ 1
+one_is_low zero d p h = elim p [ ]
 one_is_low (suc u) d p h = omega (arith, h)
 
 -- m has 24 binary digits, e is no lower than -149, and the value is below 2 ^ 128

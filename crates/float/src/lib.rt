@@ -1,3 +1,4 @@
+#![tactic(auto)]
 // An f32 from its bit pattern and back, for every pattern. The machine's own from_bits and to_bits are
 // undefined at a NaN, so the two functions here step around it.
 

@@ -1,3 +1,4 @@
+#![tactic(auto)]
 // The look at a floor and a question: the tests 2 to 9 in table order. A floor is two lists of records and the number of corner
 // slots in a polygon's; a list holds at most as many records as document 01 says.
 
@@ -23,7 +24,7 @@ const MOST_VERTICES: usize = 1024;
 const MOST_POLYGONS: usize = 512;
 
 // Why a floor or a question is refused, with the lowest record at fault where there is one.
-#[derive(Drop)]
+#[derive(Clone, Copy)]
 pub enum Refusal {
     // 2: the vertex list is not 1 to 1,024 whole records.
     VertexLength,
@@ -44,14 +45,14 @@ pub enum Refusal {
 }
 
 // What a look at a floor finds.
-#[derive(Drop)]
+#[derive(Clone, Copy)]
 pub enum FloorLook {
     Accepted,
     Faulty(Refusal),
 }
 
 // What a look at a floor and a question finds: the polygons in which the start and the goal are, or why not.
-#[derive(Drop)]
+#[derive(Clone, Copy)]
 pub enum Look {
     Inside(usize, usize),
     Refused(Refusal),

@@ -1,3 +1,4 @@
+#![tactic(auto)]
 // The look at a stored floor for C, as far as its cost is measured (oracle/bench_floor). A slice goes to C as its pointer and
 // its length. Each function takes any bytes and changes none.
 

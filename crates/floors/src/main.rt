@@ -1,3 +1,4 @@
+#![tactic(auto)]
 // Looks at stored floors and questions, good and damaged: the file `cases`. A case is three lengths, each a little-endian
 // u32, and then the vertex list, the polygon list and the question, in as many bytes. A line each says what came out, as
 // "5 1" for corners of polygon 1 at fault, or "inside 0 1" for the polygons of start and goal.

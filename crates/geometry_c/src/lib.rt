@@ -1,3 +1,4 @@
+#![tactic(auto)]
 // The geometry on f32 bit patterns, for C and for the harness that compares it with the Rust. A NaN pattern of any kind
 // stands for NaN, and NaN comes back as 0x7FC00000. Each function takes every pattern.
 

@@ -1,3 +1,4 @@
+#![tactic(auto)]
 // The walk round a node's polygon, an edge at a time: where it begins, and what it yields on an edge. The seed's walk goes over
 // every edge whole.
 

@@ -1,3 +1,4 @@
+#![tactic(auto)]
 // The port of vleue/polyanya's src/helpers.rs, under its own names: where a line meets a segment, and how far it is to the
 // goal through an interval. Its methods of a point, and min and max, are in the crate `point`.
 
@@ -7,14 +8,14 @@ ghost use Rattle.helpers.specs.Helpers.{goal_beyond_of, heuristic_of, turning_po
 use point::{EdgeSide, Point, Segment};
 
 // Where a line meets a segment.
-#[derive(Drop)]
+#[derive(Clone, Copy)]
 pub enum Crossing {
     At(Point),
     Nowhere,
 }
 
 // Where a path turns on its way to the goal.
-#[derive(Drop)]
+#[derive(Clone, Copy)]
 pub enum Turn {
     Around(Point),
     Straight,

@@ -1,3 +1,4 @@
+#![tactic(auto)]
 // The judge: reads a route file against a floor and a question before a cart moves. Nothing is lent to it but what it reads;
 // it holds one node, what one edge of its polygon yields and the plan of the floor.
 
@@ -18,7 +19,7 @@ use steps::{Node, Trip};
 use told::Told;
 
 // What the judge says.
-#[derive(Drop)]
+#[derive(Clone, Copy)]
 pub enum Verdict {
     // 2 to 9: the floor or the question is refused, and the route file was not read.
     Refused(Refusal),

@@ -1,3 +1,4 @@
+#![tactic(auto)]
 // Damages the route file `route` in every small way and judges each: as it is, each byte one more, cut after each byte, and
 // a byte longer. A line each says what was done and what the judge says of it. The floor and the question are files too, as
 // for judge_main: a route of your own, with its floor and its question, is judged likewise.

@@ -1,3 +1,4 @@
+#![tactic(auto)]
 // Judges a route before a cart moves. It reads the floor from the files floor.vtx and floor.ply, the question from the file
 // question, and the route from standard input, and writes one line: document 01's number, the record where there is one,
 // and plain words, as "0 accepted" or "22 at record 3: not a permitted step". Where the line does not go through, standard

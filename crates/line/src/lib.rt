@@ -1,3 +1,4 @@
+#![tactic(auto)]
 // The lines that the programs say, each laid whole at the front of lent room, so that what a person reads is a definition.
 
 ghost use Rattle.std.specs.Prelude.{◌≡◌, ◌+◌, ◌≤◌, length};

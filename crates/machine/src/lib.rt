@@ -1,16 +1,17 @@
+#![tactic(auto)]
 // What a search is asked, what it counts, and how its steps and it itself end. All by value.
 
 use steps::{Node, Trip};
 
 // What is asked, and how many places there are for nodes.
-#[derive(Drop)]
+#[derive(Clone, Copy)]
 pub struct Task {
     pub trip: Trip,
     pub places: usize,
 }
 
 // How many places are taken, how many roots have a distance on record, and how many steps were counted.
-#[derive(Drop)]
+#[derive(Clone, Copy)]
 pub struct Counts {
     pub taken: usize,
     pub records: usize,
@@ -18,7 +19,7 @@ pub struct Counts {
 }
 
 // "last_f, a count of pops since it last rose, and recording once that count is above 512."
-#[derive(Drop)]
+#[derive(Clone, Copy)]
 pub struct Stall {
     pub last_f: f32,
     pub count: u32,
@@ -26,7 +27,7 @@ pub struct Stall {
 }
 
 // Where steps are made from: a place, how many steps led to it, the number of its root's record, and its node.
-#[derive(Drop)]
+#[derive(Clone, Copy)]
 pub struct Origin {
     pub place: usize,
     pub depth: u32,
@@ -35,14 +36,14 @@ pub struct Origin {
 }
 
 // The counters after nodes were made, and whether one found no place.
-#[derive(Drop)]
+#[derive(Clone, Copy)]
 pub struct Made {
     pub counts: Counts,
     pub full: bool,
 }
 
 // How a search ends.
-#[derive(Drop)]
+#[derive(Clone, Copy)]
 pub enum Finish {
     // The node at this place is in the goal polygon.
     Arrived(usize),
@@ -57,21 +58,21 @@ pub enum Finish {
 }
 
 // What comes of a step.
-#[derive(Drop)]
+#[derive(Clone, Copy)]
 pub enum Outcome {
     Goes,
     Ends(Finish),
 }
 
 // The counters after a step, and what came of it.
-#[derive(Drop)]
+#[derive(Clone, Copy)]
 pub struct Stepped {
     pub counts: Counts,
     pub outcome: Outcome,
 }
 
 // The counters after the last step, and how the search ended.
-#[derive(Drop)]
+#[derive(Clone, Copy)]
 pub struct Ended {
     pub counts: Counts,
     pub finish: Finish,

@@ -1,3 +1,4 @@
+#![tactic(auto)]
 // Making nodes: each permitted step out of a node leads to one, which takes a place and, unless its root was reached by a
 // shorter way, is queued.
 
@@ -174,7 +175,7 @@ fn make(
 }
 
 // What was made of an edge: the counters, whether a node found no place, and the round behind it.
-#[derive(Drop)]
+#[derive(Clone, Copy)]
 struct Edged {
     counts: Counts,
     full: bool,

@@ -1,3 +1,4 @@
+#![tactic(auto)]
 // What a bit pattern or a number stands for wherever C calls: a segment comes as four patterns, and a truth goes back as a number.
 
 ghost use Rattle.std.specs.Prelude.{◌≡◌};

@@ -1,3 +1,4 @@
+#![tactic(auto)]
 // Where things lie in the lent buffers. A place is a row of 11 floats and a row of 8 words; beside a node, a row of floats
 // holds one record of a root and its distance. Only these functions know the numbers of the cells.
 

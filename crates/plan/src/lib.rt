@@ -1,3 +1,4 @@
+#![tactic(auto)]
 // The plan of a floor: what a look learns of it, worked out once and lent to whatever comes after. It goes by reference, as so many
 // words: how many slots a polygon's record has for corners, how many layers the floor has, of the layer where its vertices and its
 // polygons begin, how many they are and by what it is moved, and a bit for each vertex that turns. Only these functions know

@@ -1,3 +1,4 @@
+#![tactic(auto)]
 // Points: what glam's Vec2 gives polyanya (sums, products and lengths), and what its src/helpers.rs adds to it under its own
 // names: on which side of a line a point is, mirrored across it, on a segment, in its box. Each f32 operation is in document 01's order.
 
@@ -7,18 +8,18 @@ ghost use Rattle.point.specs.Point.{distance_squared_of, project_onto_of, ends_a
 ghost use Rattle.point.specs.Sides.{magnitude_of, side_of, same_side_of, mirror_of, on_segment_of, between_of, in_bounding_box_of, min_of, max_of};
 
 // A point is two f32. It is also the way from one point to another.
-#[derive(Drop)]
+#[derive(Clone, Copy)]
 pub struct Point {
     pub x: f32,
     pub y: f32,
 }
 
 // Two points in an order: a line through both, or what lies between them.
-#[derive(Drop)]
+#[derive(Clone, Copy)]
 pub struct Segment(pub Point, pub Point);
 
 // Where a point is, seen along a line.
-#[derive(Drop)]
+#[derive(Clone, Copy)]
 pub enum EdgeSide {
     Left,
     Right,

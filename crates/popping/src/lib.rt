@@ -1,3 +1,4 @@
+#![tactic(auto)]
 // The search as steps: each pops the least node, and either arrives, or makes that node's steps.
 
 ghost use Rattle.std.specs.Prelude.{◌≡◌, true, false, ◌+◌, ◌*◌, ◌≤◌, ◌<◌, ◌^◌, length};

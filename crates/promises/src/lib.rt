@@ -1,1 +1,2 @@
+#![tactic(auto)]
 // What holds of search and judge together stands in proofs/.

@@ -1,3 +1,4 @@
+#![tactic(auto)]
 // The winner tree: which place is popped next. It stands in the first of the lent words, two for each of the n places: word
 // n + i is place i's own, and each word k from 1 below n is the better of words 2k and 2k + 1. So word 1 is the least queued
 // place. A place's f stands in lent floats, rows of `stride`, at number `at` of its row.

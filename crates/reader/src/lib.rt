@@ -1,3 +1,4 @@
+#![tactic(auto)]
 // A reader of a route file: the caller's route bytes and the number of a record in them. It walks them one record at a time.
 // A function over a struct that holds a slice is proved by hand. So each only takes the reader apart and calls a function on
 // the bytes and the number, and whoever has plain bytes calls `begins_with`, which asks for no such proof.
@@ -8,7 +9,7 @@ ghost use Rattle.reader.specs.Reading.{is_record, records_from, number_after, fi
 use records::Record;
 
 // The caller's route bytes, and the number of the record at which the reader stands.
-#[derive(Drop)]
+#[derive(Clone, Copy)]
 pub struct Reader<'a> {
     route: &'a [u8],
     number: usize,

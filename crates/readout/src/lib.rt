@@ -1,3 +1,4 @@
+#![tactic(auto)]
 // The read-out: judges, then lists the points of an accepted route, walking its records a second time.
 
 ghost use Rattle.std.specs.Prelude.{◌≡◌, ◌+◌, ◌*◌, ◌≤◌, ◌<◌, false, length};
@@ -25,7 +26,7 @@ use steps::{Node, Trip};
 use told::Told;
 
 // What a read-out answers.
-#[derive(Drop)]
+#[derive(Clone, Copy)]
 pub enum Readout {
     // 2 to 9, or 20 to 23: what the judge says, where it does not accept.
     Refused(Verdict),

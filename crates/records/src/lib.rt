@@ -1,3 +1,4 @@
+#![tactic(auto)]
 // The records by value: made, compared with the bytes of a lent file, and written into lent bytes. Nothing is allocated.
 
 ghost use Rattle.std.specs.Prelude.{◌≡◌, ◌+◌, ◌*◌, ◌≤◌, length};
@@ -11,7 +12,7 @@ use point::{Point, Segment};
 use route::{Step, kind_number};
 
 // A record of the route file: eight words, 32 bytes little-endian.
-#[derive(Drop)]
+#[derive(Clone, Copy)]
 pub struct Record {
     pub words: [u32; 8],
 }

@@ -1,3 +1,4 @@
+#![tactic(auto)]
 // Replays a fixed list of the Rust's answers, with no Rust at hand: oracle/sample wrote the file `answers`, and
 // oracle/README.md says how. A record is 12 words: the function's number, eight bit patterns that go in, and the answer's
 // number and two bit patterns that come out.
@@ -9,7 +10,7 @@ use libc::STDOUT_FILENO;
 const RECORD: usize = 48;
 
 // What a function answers: a number where it is a choice, and bit patterns where it is one float or a point.
-#[derive(Drop)]
+#[derive(Clone, Copy)]
 struct Answer {
     choice: u32,
     x: u32,
@@ -17,7 +18,7 @@ struct Answer {
 }
 
 // How many records there were, and how many got another answer than the Rust's.
-#[derive(Drop)]
+#[derive(Clone, Copy)]
 struct Count {
     records: u64,
     differ: u64,

@@ -1,3 +1,4 @@
+#![tactic(auto)]
 // IEEE 754's square root on every f32, in whole numbers. A guess in f32 arithmetic comes first and nobody
 // trusts it: what is proved is the search from there, down and then up, to the one right answer.
 
@@ -38,7 +39,7 @@ fn pattern_root(bits: u32) -> u32
 }
 
 // A number as digits * 2 ^ places.
-#[derive(Drop)]
+#[derive(Clone, Copy)]
 struct Number {
     digits: u32,
     places: u32,

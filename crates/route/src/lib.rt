@@ -1,3 +1,4 @@
+#![tactic(auto)]
 // The route file: what a step is in it, and what the judge may say of it.
 
 ghost use Rattle.std.specs.Prelude.{◌≡◌};
@@ -10,7 +11,7 @@ use told::Told;
 
 // A step as the route file has it: how the interval is seen, the polygon that is entered, the two vertices of the edge as
 // the polygon that is left has it, and the interval from its right end to its left end.
-#[derive(Drop)]
+#[derive(Clone, Copy)]
 pub struct Step {
     pub kind: SuccessorType,
     pub polygon: u32,
@@ -20,14 +21,14 @@ pub struct Step {
 }
 
 // Which of a node's steps a record is.
-#[derive(Drop)]
+#[derive(Clone, Copy)]
 pub enum Sought {
     Found(Step),
     Missing,
 }
 
 // What the judge says of a route file.
-#[derive(Drop)]
+#[derive(Clone, Copy)]
 pub enum Judged {
     // 0: the file is a true route.
     Accepted,

@@ -1,3 +1,4 @@
+#![tactic(auto)]
 // Finds a route. It reads the floor from the files floor.vtx and floor.ply and the question from standard input, and writes
 // the route's bytes to standard output. On another number than 0 nothing goes there, and one plain line goes to standard
 // error, as "8: the start is in no polygon" or "5 at record 1: a polygon's corners are wrong". A route that standard output

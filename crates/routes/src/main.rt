@@ -1,3 +1,4 @@
+#![tactic(auto)]
 // Searches stored floors for stored routes: the file `cases`. A case is eleven little-endian words: the bytes of its name, of the
 // vertex list, the polygon list and the question; the places, the entries of the table, the budget and the bytes of room that are
 // lent; the number, the counted steps and the route's bytes that must come back. Then the name, the two lists, the question and the
@@ -12,7 +13,7 @@ use search::Answer;
 use told::Told;
 
 // How many bytes each part of a case has.
-#[derive(Drop)]
+#[derive(Clone, Copy)]
 struct Parts {
     name: usize,
     vertices: usize,
@@ -22,7 +23,7 @@ struct Parts {
 }
 
 // What the search gets beside floor and question.
-#[derive(Drop)]
+#[derive(Clone, Copy)]
 struct Lent {
     places: usize,
     entries: usize,
@@ -31,7 +32,7 @@ struct Lent {
 }
 
 // What must come back beside the route.
-#[derive(Drop)]
+#[derive(Clone, Copy)]
 struct Stored {
     number: u32,
     steps: usize,

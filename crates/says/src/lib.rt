@@ -1,3 +1,4 @@
+#![tactic(auto)]
 // Plain words for document 01's numbers. Every program and the firmware take them from here, so that the people who read them at
 // 5:20 meet the same words everywhere.
 

@@ -1,3 +1,4 @@
+#![tactic(auto)]
 // The search from end to end: the tests, the search, and the route that is written.
 
 ghost use Rattle.std.specs.Prelude.{◌≡◌, true, ◌≤◌, ◌<◌};

@@ -1,3 +1,4 @@
+#![tactic(auto)]
 // Whether a record of the route is a step out of a node: one walk round the node's polygon, an edge at a time. Nothing is made of a
 // step but what its record has to say, so that no step is kept beside the record.
 
@@ -118,7 +119,7 @@ fn is_part(
 }
 
 // What came of an edge: whether the record is a step over one of its parts, and the round behind it.
-#[derive(Drop)]
+#[derive(Clone, Copy)]
 struct Looked {
     found: bool,
     next: Round,

@@ -1,3 +1,4 @@
+#![tactic(auto)]
 // The lent table of the nodes that a stalled search has met. An entry is ten words: a node's root, interval, edge, polygon left and
 // polygon entered, as bits. It is found by the sum of its words, which wraps, and then by the next entry, behind the last the first.
 // Only these functions know where an entry lies.
@@ -17,7 +18,7 @@ pub const ENTRY: usize = 10;
 const ENTERED: usize = 9;
 
 // What comes of a node that is looked up.
-#[derive(Drop)]
+#[derive(Clone, Copy)]
 pub enum Entry {
     // It was met for the first time, or nothing is recorded.
     New,
@@ -28,7 +29,7 @@ pub enum Entry {
 }
 
 // Where looking up ends.
-#[derive(Drop)]
+#[derive(Clone, Copy)]
 pub enum Spot {
     // At the entry that holds the key.
     Held,

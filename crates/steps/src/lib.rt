@@ -1,3 +1,4 @@
+#![tactic(auto)]
 // The permitted steps out of a node, in the walk's order, for the search and the judge alike.
 
 ghost use Rattle.std.specs.Prelude.{◌≡◌, ◌+◌, ◌/◌, ◌<◌, ◌^◌, length};
@@ -11,7 +12,7 @@ use point::{Point, Segment};
 use route::Step;
 
 // What is asked of a floor: from a start in this polygon to a goal in that one.
-#[derive(Drop)]
+#[derive(Clone, Copy)]
 pub struct Trip {
     pub start: Point,
     pub goal: Point,
@@ -23,7 +24,7 @@ pub struct Trip {
 // way turned, how long the way to it is and how many points it has, and the polygon that was left for it. The seed, where every
 // route begins, was entered by nothing and has left no other polygon than its own. What was left comes last: behind the flag, which
 // takes one byte, it would be copied in pieces.
-#[derive(Drop)]
+#[derive(Clone, Copy)]
 pub struct Node {
     pub seed: bool,
     pub polygon: u32,
@@ -37,14 +38,14 @@ pub struct Node {
 }
 
 // How a route ends that goes on straight to the goal: how many points it has in all, and how long it is.
-#[derive(Drop)]
+#[derive(Clone, Copy)]
 pub struct Ending {
     pub points: u32,
     pub length: f32,
 }
 
 // The step over a part of an edge, if there is one.
-#[derive(Drop)]
+#[derive(Clone, Copy)]
 pub enum Permitted {
     Yes(Step),
     No,

@@ -16,7 +16,7 @@ use view::View;
 use walk::{Successor, Walked};
 
 // Whether the step that is sought is here, or which of those behind it is.
-#[derive(Drop)]
+#[derive(Clone, Copy)]
 enum Counted {
     Here(Step),
     Further(usize),

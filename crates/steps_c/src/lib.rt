@@ -1,3 +1,4 @@
+#![tactic(auto)]
 // The permitted steps for C, and for the harness that compares them with the Rust. A slice goes to C as its pointer and its
 // length. The function takes any bytes and any words.
 
@@ -17,7 +18,7 @@ mod kth;
 mod stand;
 
 // What comes of asking for a step.
-#[derive(Drop)]
+#[derive(Clone, Copy)]
 enum Answer {
     // The step.
     Given(Step),

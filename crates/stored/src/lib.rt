@@ -1,3 +1,4 @@
+#![tactic(auto)]
 // The records of a stored floor, read where they lie. Only these functions know where a record's bytes are.
 
 ghost use Rattle.std.specs.Prelude.{◌≡◌, ◌+◌, ◌*◌, ◌/◌, ◌≤◌, ◌<◌, length};

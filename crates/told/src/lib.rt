@@ -1,3 +1,4 @@
+#![tactic(auto)]
 // What is told of an answer: document 01's number, and what comes with it. Each enum of answers has one function `told`, beside its
 // type; whoever says an answer, writes it or hands it to C takes what that gives, and knows no other variant.
 
@@ -5,7 +6,7 @@ ghost use Rattle.std.specs.Prelude.{◌≡◌};
 ghost use Rattle.told.specs.Told.{number_of};
 
 // A number, and what comes with it. The counted steps of a search come with every number, and stand apart.
-#[derive(Drop)]
+#[derive(Clone, Copy)]
 pub enum Told {
     Alone(u32),
     // 4, 5, 6, 21, 22, 23: with the lowest record at fault.

@@ -1,3 +1,4 @@
+#![tactic(auto)]
 // Runs document 01's examples of the geometry and a list of IEEE 754 square roots. Each line says what came out; the
 // last lines count what was as it should be.
 

@@ -1,3 +1,4 @@
+#![tactic(auto)]
 // What a node allows and sees, worked out once a node, and the step over a part of an edge.
 
 ghost use Rattle.std.specs.Prelude.{◌≡◌, ◌<◌};
@@ -16,7 +17,7 @@ use stored::UNUSED;
 use walk::Successor;
 
 // A vertex of the entry edge: whether the way may turn there, and whether that keeps the root.
-#[derive(Drop)]
+#[derive(Clone, Copy)]
 pub struct Corner {
     pub allowed: bool,
     pub keeps: bool,
@@ -24,7 +25,7 @@ pub struct Corner {
 
 // Of a node's polygon: whether a part may be stepped over, and through which cone it is seen. A step over a part that is seen keeps
 // the root, unless the root is NaN.
-#[derive(Drop)]
+#[derive(Clone, Copy)]
 pub struct View {
     pub seed: bool,
     pub polygon: u32,

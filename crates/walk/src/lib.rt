@@ -1,3 +1,4 @@
+#![tactic(auto)]
 // The port of edges_between of vleue/polyanya's src/instance.rs, the general walk alone: into which intervals a node's two
 // rays divide an edge of the polygon that it enters, and how each is seen.
 
@@ -13,14 +14,14 @@ mod round;
 pub use round::Round;
 
 // A part of an edge, and how it is seen.
-#[derive(Drop)]
+#[derive(Clone, Copy)]
 pub struct Part {
     pub interval: Segment,
     pub kind: SuccessorType,
 }
 
 // A part of an edge, by the edge's number round its polygon.
-#[derive(Drop)]
+#[derive(Clone, Copy)]
 pub struct Successor {
     pub edge: usize,
     pub part: Part,
@@ -28,7 +29,7 @@ pub struct Successor {
 
 // What an edge yields: its first count parts, in order from its start to its end, and the kind to go on with. Whoever reads the
 // parts goes to the count; what stands behind it is no part.
-#[derive(Drop)]
+#[derive(Clone, Copy)]
 pub struct Walked {
     pub parts: [Part; 3],
     pub count: usize,

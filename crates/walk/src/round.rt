@@ -7,7 +7,7 @@ ghost use Rattle.walk.specs.Turns.{begin_of, is_over_of, edge_number_of, next_of
 use cut::SuccessorType;
 
 // Of a polygon's count edges, taken have been walked since the entry edge; kind is what the last one left.
-#[derive(Drop)]
+#[derive(Clone, Copy)]
 pub struct Round {
     pub entry: usize,
     pub count: usize,

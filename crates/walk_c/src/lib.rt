@@ -1,3 +1,4 @@
+#![tactic(auto)]
 // The walk of one edge for C, on f32 bit patterns, as geometry_c has the geometry.
 
 ghost use Rattle.std.specs.Prelude.{◌≡◌, ◌*◌, ◌<◌, ◌≤◌};
@@ -12,7 +13,7 @@ use point::Point;
 use walk::Part;
 
 // The kind that a number stands for.
-#[derive(Drop)]
+#[derive(Clone, Copy)]
 enum Asked {
     Kind(SuccessorType),
     Unknown,

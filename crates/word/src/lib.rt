@@ -1,3 +1,4 @@
+#![tactic(auto)]
 // A u32 in little-endian bytes, at any position. Every caller has tested the length.
 
 ghost use Rattle.std.specs.Prelude.{◌≡◌, ◌+◌, ◌≤◌, ◌<◌, length};

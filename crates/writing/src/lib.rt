@@ -1,3 +1,4 @@
+#![tactic(auto)]
 // What a search answers, and the route's bytes: the seed, the steps down the chain of parents, and the end. They are written
 // from the end backwards, as the chain is walked.
 
@@ -19,7 +20,7 @@ use steps::{Node, Trip};
 use told::Told;
 
 // What a search answers. Each but Refused and NoPlaces has the counted steps, which are 0 for those two.
-#[derive(Drop)]
+#[derive(Clone, Copy)]
 pub enum Answer {
     // 0: the route stands in the first so many bytes of the output.
     Found { steps: usize, bytes: usize },
