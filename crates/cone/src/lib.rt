@@ -47,6 +47,7 @@ enum Cut {
 }
 
 impl Ray {
+    #[tactic(auto, unfolding(crate::specs::Cone::ray_of))]
     pub fn new(root: Point, end: Point) -> Ray
         ensures { result ≡ ray_of root end }
     {
@@ -57,6 +58,7 @@ impl Ray {
 }
 
 impl Cone {
+    #[tactic(auto, unfolding(crate::specs::Cone::cone_of))]
     pub fn new(root: Point, interval: Segment) -> Cone
         ensures { result ≡ cone_of root interval }
     {
@@ -68,6 +70,7 @@ impl Cone {
     // A root sitting on one end of its own interval has no wedge: the ray to that end has no direction, and what it can see
     // is a half plane rather than a slice. There is nothing to clip against, and dividing by that ray's length only
     // manufactures noise.
+    #[tactic(auto, unfolding(crate::specs::Cone::has_short_ray_of))]
     fn has_short_ray(self) -> bool
         ensures { result ≡ has_short_ray_of self }
     {
@@ -78,6 +81,7 @@ impl Cone {
     // the same thing whatever the lengths involved. The slack is generous because this runs at every polygon along a path:
     // interval ends that miss a corner by a thousandth of a unit wander further on a long way, and a tighter clip would eat
     // the wedge a little at each step.
+    #[tactic(auto, unfolding(crate::specs::Cone::from_right_of))]
     fn from_right(self, point: Point) -> f32
         ensures { result ≡ from_right_of self point }
     {
@@ -85,6 +89,7 @@ impl Cone {
     }
 
     // How far a point sits to the right of the left ray, with the same slack.
+    #[tactic(auto, unfolding(crate::specs::Cone::from_left_of))]
     fn from_left(self, point: Point) -> f32
         ensures { result ≡ from_left_of self point }
     {
@@ -92,6 +97,7 @@ impl Cone {
     }
 
     // What the right ray and then the left ray leave of a segment.
+    #[tactic(auto, unfolding(crate::specs::Cone::part_inside_of))]
     fn part_inside(self, segment: Segment) -> Cut
         ensures { result ≡ part_inside_of self segment }
     {
@@ -105,6 +111,7 @@ impl Cone {
 
     // Narrows a segment to the part of it that lies in the cone. Where a ray is too short there is no cone, and the segment
     // comes back as it is.
+    #[tactic(auto, unfolding(crate::specs::Cone::clip_of))]
     pub fn clip(self, segment: Segment) -> Clipped
         ensures { result ≡ clip_of self segment }
     {
@@ -126,6 +133,7 @@ impl Cone {
 
 impl Part {
     // What a ray leaves of the part, where the segment's start and end sit so far inside it.
+    #[tactic(auto, unfolding(crate::specs::Cone::cut_of))]
     fn cut(self, start: f32, end: f32) -> Cut
         ensures { result ≡ cut_of self start end }
     {
@@ -144,6 +152,7 @@ impl Part {
     }
 
     // The part's own ends. They are worked out even at 0 and 1: what comes out at 1 need not be segment.1.
+    #[tactic(auto, unfolding(crate::specs::Cone::part_of))]
     fn of(self, segment: Segment) -> Segment
         ensures { result ≡ part_of self segment }
     {
@@ -157,6 +166,7 @@ impl Part {
 }
 
 // Whether a segment is wholly on the wrong side of a ray.
+#[tactic(auto, unfolding(crate::specs::Cone::both_outside_of))]
 fn both_outside(start: f32, end: f32) -> bool
     ensures { result ≡ both_outside_of start end }
 {
@@ -164,6 +174,7 @@ fn both_outside(start: f32, end: f32) -> bool
 }
 
 // Where a segment crosses a ray, as a fraction along it.
+#[tactic(auto, unfolding(crate::specs::Cone::fraction_of))]
 fn fraction(start: f32, end: f32) -> f32
     ensures { result ≡ fraction_of start end }
 {
@@ -171,6 +182,7 @@ fn fraction(start: f32, end: f32) -> f32
 }
 
 // lo moves up to a fraction above it. A NaN does not move it, and neither does a zero of the other sign.
+#[tactic(auto, unfolding(crate::specs::Cone::raised_of))]
 fn raised(lo: f32, fraction: f32) -> f32
     ensures { result ≡ raised_of lo fraction }
 {
@@ -181,6 +193,7 @@ fn raised(lo: f32, fraction: f32) -> f32
 }
 
 // hi moves down to a fraction below it. A NaN does not move it.
+#[tactic(auto, unfolding(crate::specs::Cone::lowered_of))]
 fn lowered(hi: f32, fraction: f32) -> f32
     ensures { result ≡ lowered_of hi fraction }
 {
@@ -192,6 +205,7 @@ fn lowered(hi: f32, fraction: f32) -> f32
 
 // Narrows a successor's interval to the part of it that its parent could actually see: a successor that keeps its parent's
 // root sees through the parent's wedge. Whoever has many segments for one cone keeps a Cone.
+#[tactic(auto, unfolding(crate::specs::Cone::clip_to_cone_of))]
 pub fn clip_to_cone(root: Point, cone: Segment, segment: Segment) -> Clipped
     ensures { result ≡ clip_to_cone_of root cone segment }
 {
@@ -201,6 +215,7 @@ pub fn clip_to_cone(root: Point, cone: Segment, segment: Segment) -> Clipped
 // Did a computed interval end land on the vertex that it was meant to? On the bundled meshes the ends that should have been
 // corners missed by 1.0 to 1.4 thousandths of a unit. The Rust allows more where the vertex is far from the root: document 01
 // does not, and the root is not looked at.
+#[tactic(auto, unfolding(crate::specs::Landing::lands_on_of))]
 pub fn lands_on(computed: Point, vertex: Point, root: Point) -> bool
     ensures { result ≡ lands_on_of computed vertex root }
 {

@@ -25,6 +25,7 @@ pub struct Cut {
 }
 
 impl Cut {
+    #[tactic(auto, unfolding(crate::specs::Cut::nowhere_of))]
     fn nowhere(kind: SuccessorType) -> Cut
         ensures { result ≡ nowhere_of kind }
     {
@@ -36,18 +37,21 @@ impl Cut {
 }
 
 // Whether a cut is far enough from an end of the edge to count.
+#[tactic(auto, unfolding(crate::specs::Cut::told_apart_of))]
 fn told_apart(cut: Point, end: Point) -> bool
     ensures { result ≡ told_apart_of cut end }
 {
     cut.distance_squared(end) > Point::APART
 }
 
+#[tactic(auto, unfolding(crate::specs::Cut::apart_from_both_of))]
 fn apart_from_both(cut: Point, edge: Segment) -> bool
     ensures { result ≡ apart_from_both_of cut edge }
 {
     told_apart(cut, edge.0) && told_apart(cut, edge.1)
 }
 
+#[tactic(auto, unfolding(crate::specs::Cut::cut_if_of))]
 fn cut_if(apart: bool, cut: Point) -> Crossing
     ensures { result ≡ cut_if_of apart cut }
 {
@@ -57,6 +61,7 @@ fn cut_if(apart: bool, cut: Point) -> Crossing
     Crossing::Nowhere
 }
 
+#[tactic(auto, unfolding(crate::specs::Cut::seen_if_of))]
 fn seen_if(apart: bool, kind: SuccessorType) -> SuccessorType
     ensures { result ≡ seen_if_of apart kind }
 {
@@ -68,6 +73,7 @@ fn seen_if(apart: bool, kind: SuccessorType) -> SuccessorType
 
 // Where the right ray meets an edge. Only a cut apart from both ends makes an interval; what comes behind it is seen all
 // the same, unless the cut is at the end.
+#[tactic(auto, unfolding(crate::specs::Cut::first_crossing_of))]
 fn first_crossing(intersect: Point, edge: Segment, kind: SuccessorType) -> Cut
     ensures { result ≡ first_crossing_of intersect edge kind }
 {
@@ -77,6 +83,7 @@ fn first_crossing(intersect: Point, edge: Segment, kind: SuccessorType) -> Cut
 }
 
 // An edge that starts to the left of the right ray is no longer to the right of what is seen.
+#[tactic(auto, unfolding(crate::specs::Cut::seen_from_right_of))]
 fn seen_from_right(kind: SuccessorType) -> SuccessorType
     ensures { result ≡ seen_from_right_of kind }
 {
@@ -87,6 +94,7 @@ fn seen_from_right(kind: SuccessorType) -> SuccessorType
     }
 }
 
+#[tactic(auto, unfolding(crate::specs::Cut::unless_right_of))]
 fn unless_right(side: EdgeSide, then: SuccessorType, kind: SuccessorType) -> SuccessorType
     ensures { result ≡ unless_right_of side then kind }
 {
@@ -98,6 +106,7 @@ fn unless_right(side: EdgeSide, then: SuccessorType, kind: SuccessorType) -> Suc
 }
 
 // What the right ray does to an edge.
+#[tactic(auto, unfolding(crate::specs::Cut::first_cut_of))]
 pub fn first_cut(right: Segment, edge: Segment, kind: SuccessorType) -> Cut
     ensures { result ≡ first_cut_of right edge kind }
 {
@@ -119,6 +128,7 @@ pub fn first_cut(right: Segment, edge: Segment, kind: SuccessorType) -> Cut
 }
 
 // What the left ray does to what the first cut leaves of an edge.
+#[tactic(auto, unfolding(crate::specs::Cut::second_cut_of))]
 pub fn second_cut(left: Segment, right: Segment, edge: Segment, kind: SuccessorType) -> Cut
     ensures { result ≡ second_cut_of left right edge kind }
 {

@@ -16,6 +16,7 @@ use helpers::{Crossing, Turn};
 use patterns::{segment, truth_number};
 use point::{EdgeSide, Point};
 
+#[tactic(auto, unfolding(crate::specs::Export::side_number))]
 fn side_number(side: EdgeSide) -> u32
     ensures { result ≡ side_number side }
 {
@@ -27,6 +28,7 @@ fn side_number(side: EdgeSide) -> u32
 }
 
 // Writes the bit patterns of a point's coordinates.
+#[tactic(auto, unfolding(crate::specs::Export::point_bits))]
 fn put(out: &mut [u32; 2], point: Point)
     ensures { out.new ≡ point_bits point }
 {
@@ -125,6 +127,7 @@ pub extern "C" fn geometry_heuristic(
 }
 
 // 1 and the point, or 0 and out is unchanged.
+#[tactic(auto, unfolding(crate::specs::Export::turn_number, crate::specs::Export::turn_written))]
 #[unsafe(no_mangle)]
 pub extern "C" fn geometry_turning_point(
     rx: u32,
@@ -173,6 +176,7 @@ pub extern "C" fn geometry_intersection_time(
 }
 
 // 1 and the point, or 0 and out is unchanged.
+#[tactic(auto, unfolding(crate::specs::Export::crossing_number, crate::specs::Export::crossing_written))]
 #[unsafe(no_mangle)]
 pub extern "C" fn geometry_line_intersect_segment(
     l0x: u32,

@@ -22,6 +22,7 @@ pub enum Turn {
 }
 
 // If the goal is on the same side of the interval with the root, then we mirror it.
+#[tactic(auto, unfolding(crate::specs::Helpers::goal_beyond_of))]
 fn goal_beyond(root: Point, goal: Point, interval: Segment) -> Point
     ensures { result ≡ goal_beyond_of root goal interval }
 {
@@ -32,6 +33,7 @@ fn goal_beyond(root: Point, goal: Point, interval: Segment) -> Point
 }
 
 // Computes heuristic distance from a search node represented by the given root and interval to the goal.
+#[tactic(auto, unfolding(crate::specs::Helpers::heuristic_of))]
 pub fn heuristic(root: Point, goal: Point, interval: Segment) -> f32
     ensures { result ≡ heuristic_of root goal interval }
 {
@@ -54,6 +56,7 @@ pub fn heuristic(root: Point, goal: Point, interval: Segment) -> f32
 }
 
 // Returns the point at which the path between the given root and goal should turn, if any.
+#[tactic(auto, unfolding(crate::specs::Helpers::turning_point_of))]
 pub fn turning_point(root: Point, goal: Point, interval: Segment) -> Turn
     ensures { result ≡ turning_point_of root goal interval }
 {
@@ -75,6 +78,7 @@ pub fn turning_point(root: Point, goal: Point, interval: Segment) -> Turn
 // Returns intersection time (which is the ratio of the supposed
 // intersection-defined segment "part" to the total segment length)
 // at which the given segment will be intersected by the given line.
+#[tactic(auto, unfolding(crate::specs::Helpers::intersection_time_of))]
 pub fn intersection_time(line: Segment, segment: Segment) -> f32
     ensures { result ≡ intersection_time_of line segment }
 {
@@ -86,6 +90,7 @@ pub fn intersection_time(line: Segment, segment: Segment) -> f32
 
 // Whether an intersection time is on the segment. The bounds are deliberately a little wider than the segment, so that a
 // line passing within a hair of an end still counts as crossing it.
+#[tactic(auto, unfolding(crate::specs::Helpers::crosses_of))]
 fn crosses(time: f32) -> bool
     ensures { result ≡ crosses_of time }
 {
@@ -93,6 +98,7 @@ fn crosses(time: f32) -> bool
 }
 
 // Rust's clamp to 0..1: -0.0 stays.
+#[tactic(auto, unfolding(crate::specs::Helpers::clamp_of))]
 fn clamp(x: f32) -> f32
     ensures { result ≡ clamp_of x }
 {
@@ -107,6 +113,7 @@ fn clamp(x: f32) -> f32
 
 // Returns the intersection point of the given line and segment, if it exists: none if the time is NaN or outside
 // -EPSILON to 1 + EPSILON, else the point at the time clamped to 0..1.
+#[tactic(auto, unfolding(crate::specs::Helpers::line_intersect_segment_of))]
 pub fn line_intersect_segment(line: Segment, segment: Segment) -> Crossing
     ensures { result ≡ line_intersect_segment_of line segment }
 {

@@ -29,18 +29,21 @@ fn word(plan: &[u32; PLAN], k: usize) -> u32
 }
 
 // How many corners a polygon's record has room for, and how many neighbours.
+#[tactic(auto, unfolding(crate::specs::Plan::slots_in))]
 pub fn slots(plan: &[u32; PLAN]) -> usize
     ensures { result ≡ slots_in plan.now }
 {
     word(plan, SLOTS) as usize
 }
 
+#[tactic(auto, unfolding(crate::specs::Plan::vertex_count_in))]
 pub fn vertex_count(plan: &[u32; PLAN]) -> usize
     ensures { result ≡ vertex_count_in plan.now }
 {
     word(plan, VERTICES) as usize
 }
 
+#[tactic(auto, unfolding(crate::specs::Plan::polygon_count_in))]
 pub fn polygon_count(plan: &[u32; PLAN]) -> usize
     ensures { result ≡ polygon_count_in plan.now }
 {
@@ -48,6 +51,7 @@ pub fn polygon_count(plan: &[u32; PLAN]) -> usize
 }
 
 // Whether vertex v turns.
+#[tactic(auto, unfolding(crate::specs::Plan::is_marked))]
 pub fn turns(plan: &[u32; PLAN], v: usize) -> bool
     requires { v < most_vertices }
     ensures { result ≡ is_marked plan.now v }
@@ -56,6 +60,7 @@ pub fn turns(plan: &[u32; PLAN], v: usize) -> bool
 }
 
 // Marks vertex v as one that turns.
+#[tactic(auto, unfolding(crate::specs::Plan::marked))]
 pub fn mark(plan: &mut [u32; PLAN], v: usize)
     requires { v < most_vertices }
     ensures { plan.new ≡ marked plan.old v }
@@ -65,6 +70,7 @@ pub fn mark(plan: &mut [u32; PLAN], v: usize)
 }
 
 // The plan of one layer that is not moved, before a vertex is marked.
+#[tactic(auto, unfolding(crate::specs::Plan::laid))]
 pub fn lay(plan: &mut [u32; PLAN], slots: usize, vertices: usize, polygons: usize)
     requires { (slots ≤ most_slots) × (vertices ≤ most_vertices) × (polygons ≤ most_polygons) }
     ensures { plan.new ≡ laid slots vertices polygons }

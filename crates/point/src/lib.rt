@@ -45,6 +45,7 @@ impl Point {
     // A cut of an edge at this squared distance of its end or nearer is passed over.
     pub const APART: f32 = 1e-6;
 
+    #[tactic(auto, unfolding(crate::specs::Point::point_of))]
     pub fn new(x: f32, y: f32) -> Point
         ensures { result ≡ point_of x y }
     {
@@ -52,12 +53,14 @@ impl Point {
     }
 
     // The point whose coordinates have these bit patterns.
+    #[tactic(auto, unfolding(crate::specs::Point::from_bits_of))]
     pub fn from_bits(x: u32, y: u32) -> Point
         ensures { result ≡ from_bits_of x y }
     {
         Point::new(float::from_bits(x), float::from_bits(y))
     }
 
+    #[tactic(auto, unfolding(crate::specs::Point::minus_of))]
     pub fn minus(self, other: Point) -> Point
         ensures { result ≡ minus_of self other }
     {
@@ -67,6 +70,7 @@ impl Point {
         }
     }
 
+    #[tactic(auto, unfolding(crate::specs::Point::plus_of))]
     pub fn plus(self, other: Point) -> Point
         ensures { result ≡ plus_of self other }
     {
@@ -77,6 +81,7 @@ impl Point {
     }
 
     // Rust's v * by, and by * v: which operand stands first shows nowhere.
+    #[tactic(auto, unfolding(crate::specs::Point::times_of))]
     pub fn times(self, by: f32) -> Point
         ensures { result ≡ times_of self by }
     {
@@ -87,12 +92,14 @@ impl Point {
     }
 
     // Rust's == on points: 0.0 and -0.0 are the same, and a NaN is the same as nothing.
+    #[tactic(auto, unfolding(crate::specs::Point::same_of))]
     pub fn same(self, other: Point) -> bool
         ensures { result ≡ same_of self other }
     {
         self.x == other.x && self.y == other.y
     }
 
+    #[tactic(auto, unfolding(crate::specs::Point::dot_of))]
     pub fn dot(self, other: Point) -> f32
         ensures { result ≡ dot_of self other }
     {
@@ -100,24 +107,28 @@ impl Point {
     }
 
     // Twice the area of the triangle that the two span, above zero where other is to the left of self.
+    #[tactic(auto, unfolding(crate::specs::Point::perp_dot_of))]
     pub fn perp_dot(self, other: Point) -> f32
         ensures { result ≡ perp_dot_of self other }
     {
         self.x * other.y - self.y * other.x
     }
 
+    #[tactic(auto, unfolding(crate::specs::Point::length_of))]
     pub fn length(self) -> f32
         ensures { result ≡ length_of self }
     {
         root::root(self.dot(self))
     }
 
+    #[tactic(auto, unfolding(crate::specs::Point::distance_of))]
     pub fn distance(self, other: Point) -> f32
         ensures { result ≡ distance_of self other }
     {
         self.minus(other).length()
     }
 
+    #[tactic(auto, unfolding(crate::specs::Point::distance_squared_of))]
     pub fn distance_squared(self, other: Point) -> f32
         ensures { result ≡ distance_squared_of self other }
     {
@@ -126,6 +137,7 @@ impl Point {
     }
 
     // The part of self that lies along other.
+    #[tactic(auto, unfolding(crate::specs::Point::project_onto_of))]
     pub fn project_onto(self, other: Point) -> Point
         ensures { result ≡ project_onto_of self other }
     {
@@ -134,6 +146,7 @@ impl Point {
 
     // Determines where relative to the given line the point is: Edge if the area is within EPSILON of zero, else Left if
     // it is positive, else Right. NaN is Right.
+    #[tactic(auto, unfolding(crate::specs::Sides::side_of))]
     pub fn side(self, line: Segment) -> EdgeSide
         ensures { result ≡ side_of self line }
     {
@@ -150,6 +163,7 @@ impl Point {
     }
 
     // Mirrors a point across a line defined by two points.
+    #[tactic(auto, unfolding(crate::specs::Sides::mirror_of))]
     pub fn mirror(self, line: Segment) -> Point
         ensures { result ≡ mirror_of self line }
     {
@@ -164,6 +178,7 @@ impl Point {
 
     // Determines if a point lies on a line segment. Being on the line is not enough: the point can be
     // outside the segment but still be on the line.
+    #[tactic(auto, unfolding(crate::specs::Sides::on_segment_of))]
     pub fn on_segment(self, segment: Segment) -> bool
         ensures { result ≡ on_segment_of self segment }
     {
@@ -171,6 +186,7 @@ impl Point {
     }
 
     // Determines if a point is in a bounding box.
+    #[tactic(auto, unfolding(crate::specs::Sides::in_bounding_box_of))]
     pub fn in_bounding_box(self, segment: Segment) -> bool
         ensures { result ≡ in_bounding_box_of self segment }
     {
@@ -180,6 +196,7 @@ impl Point {
 
 impl Segment {
     // Whether a point is one of the two, by Point::same.
+    #[tactic(auto, unfolding(crate::specs::Point::ends_at_of))]
     pub fn ends_at(self, point: Point) -> bool
         ensures { result ≡ ends_at_of self point }
     {
@@ -188,6 +205,7 @@ impl Segment {
 }
 
 // Rust's == on sides, which the proofs take only as a match.
+#[tactic(auto, unfolding(crate::specs::Sides::same_side_of))]
 pub fn same_side(a: EdgeSide, b: EdgeSide) -> bool
     ensures { result ≡ same_side_of a b }
 {
@@ -211,6 +229,7 @@ pub fn same_side(a: EdgeSide, b: EdgeSide) -> bool
 }
 
 // The magnitude of x, as far as a comparison can tell: -0.0 stays, and no comparison knows it from 0.0.
+#[tactic(auto, unfolding(crate::specs::Sides::magnitude_of))]
 fn magnitude(x: f32) -> f32
     ensures { result ≡ magnitude_of x }
 {
@@ -221,6 +240,7 @@ fn magnitude(x: f32) -> f32
 }
 
 // Whether x is between a and b in either order, or at most Point::BOX_EPSILON past them. NaN is in no range.
+#[tactic(auto, unfolding(crate::specs::Sides::between_of))]
 fn between(x: f32, a: f32, b: f32) -> bool
     ensures { result ≡ between_of x a b }
 {
@@ -228,6 +248,7 @@ fn between(x: f32, a: f32, b: f32) -> bool
 }
 
 // The second operand unless the comparison holds: so min(-0.0, 0.0) is 0.0, and a NaN comes back only as the second.
+#[tactic(auto, unfolding(crate::specs::Sides::min_of))]
 pub fn min(x: f32, y: f32) -> f32
     ensures { result ≡ min_of x y }
 {
@@ -238,6 +259,7 @@ pub fn min(x: f32, y: f32) -> f32
 }
 
 // The second operand unless the comparison holds.
+#[tactic(auto, unfolding(crate::specs::Sides::max_of))]
 pub fn max(x: f32, y: f32) -> f32
     ensures { result ≡ max_of x y }
 {

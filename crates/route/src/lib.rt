@@ -43,6 +43,7 @@ pub enum Judged {
 }
 
 // The number of a step's kind in its record.
+#[tactic(auto, unfolding(crate::specs::Step::kind_number))]
 pub fn kind_number(kind: SuccessorType) -> u32
     ensures { result ≡ kind_number kind }
 {
@@ -55,6 +56,7 @@ pub fn kind_number(kind: SuccessorType) -> u32
 
 impl Judged {
     // The number in document 01's table, and the record at fault where there is one.
+    #[tactic(auto, unfolding(crate::specs::Judge::judged_told))]
     pub fn told(self) -> Told
         ensures { result ≡ judged_told self }
     {

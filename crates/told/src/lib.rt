@@ -16,6 +16,7 @@ pub enum Told {
 }
 
 impl Told {
+    #[tactic(auto, unfolding(crate::specs::Told::number_of))]
     pub fn number(self) -> u32
         ensures { result ≡ number_of self }
     {
