@@ -35,37 +35,32 @@ fn put(out: &mut [u32; 2], point: Point)
     *out = [float::to_bits(point.x), float::to_bits(point.y)];
 }
 
-#[unsafe(no_mangle)]
-pub extern "C" fn geometry_root(x: u32) -> u32
+pub fn geometry_root(x: u32) -> u32
     ensures { result ≡ to_bits binary32 (root_of (of_bits binary32 x)) }
 {
     float::to_bits(root::root(float::from_bits(x)))
 }
 
-#[unsafe(no_mangle)]
-pub extern "C" fn geometry_min(x: u32, y: u32) -> u32
+pub fn geometry_min(x: u32, y: u32) -> u32
     ensures { result ≡ to_bits binary32 (min_of (of_bits binary32 x) (of_bits binary32 y)) }
 {
     float::to_bits(point::min(float::from_bits(x), float::from_bits(y)))
 }
 
-#[unsafe(no_mangle)]
-pub extern "C" fn geometry_max(x: u32, y: u32) -> u32
+pub fn geometry_max(x: u32, y: u32) -> u32
     ensures { result ≡ to_bits binary32 (max_of (of_bits binary32 x) (of_bits binary32 y)) }
 {
     float::to_bits(point::max(float::from_bits(x), float::from_bits(y)))
 }
 
 // 0 is Left, 1 is Right, 2 is Edge.
-#[unsafe(no_mangle)]
-pub extern "C" fn geometry_side(px: u32, py: u32, l0x: u32, l0y: u32, l1x: u32, l1y: u32) -> u32
+pub fn geometry_side(px: u32, py: u32, l0x: u32, l0y: u32, l1x: u32, l1y: u32) -> u32
     ensures { result ≡ side_number (side_of (from_bits_of px py) (segment_of l0x l0y l1x l1y)) }
 {
     side_number(Point::from_bits(px, py).side(segment(l0x, l0y, l1x, l1y)))
 }
 
-#[unsafe(no_mangle)]
-pub extern "C" fn geometry_on_segment(
+pub fn geometry_on_segment(
     px: u32,
     py: u32,
     s0x: u32,
@@ -78,8 +73,7 @@ pub extern "C" fn geometry_on_segment(
     truth_number(Point::from_bits(px, py).on_segment(segment(s0x, s0y, s1x, s1y)))
 }
 
-#[unsafe(no_mangle)]
-pub extern "C" fn geometry_in_bounding_box(
+pub fn geometry_in_bounding_box(
     px: u32,
     py: u32,
     s0x: u32,
@@ -92,8 +86,7 @@ pub extern "C" fn geometry_in_bounding_box(
     truth_number(Point::from_bits(px, py).in_bounding_box(segment(s0x, s0y, s1x, s1y)))
 }
 
-#[unsafe(no_mangle)]
-pub extern "C" fn geometry_mirror(
+pub fn geometry_mirror(
     px: u32,
     py: u32,
     l0x: u32,
@@ -108,8 +101,7 @@ pub extern "C" fn geometry_mirror(
     put(out, mirrored);
 }
 
-#[unsafe(no_mangle)]
-pub extern "C" fn geometry_heuristic(
+pub fn geometry_heuristic(
     rx: u32,
     ry: u32,
     gx: u32,
@@ -128,8 +120,7 @@ pub extern "C" fn geometry_heuristic(
 
 // 1 and the point, or 0 and out is unchanged.
 #[tactic(auto, unfolding(crate::specs::Export::turn_number, crate::specs::Export::turn_written))]
-#[unsafe(no_mangle)]
-pub extern "C" fn geometry_turning_point(
+pub fn geometry_turning_point(
     rx: u32,
     ry: u32,
     gx: u32,
@@ -156,8 +147,7 @@ pub extern "C" fn geometry_turning_point(
     }
 }
 
-#[unsafe(no_mangle)]
-pub extern "C" fn geometry_intersection_time(
+pub fn geometry_intersection_time(
     l0x: u32,
     l0y: u32,
     l1x: u32,
@@ -177,8 +167,7 @@ pub extern "C" fn geometry_intersection_time(
 
 // 1 and the point, or 0 and out is unchanged.
 #[tactic(auto, unfolding(crate::specs::Export::crossing_number, crate::specs::Export::crossing_written))]
-#[unsafe(no_mangle)]
-pub extern "C" fn geometry_line_intersect_segment(
+pub fn geometry_line_intersect_segment(
     l0x: u32,
     l0y: u32,
     l1x: u32,
@@ -206,36 +195,31 @@ pub extern "C" fn geometry_line_intersect_segment(
     }
 }
 
-#[unsafe(no_mangle)]
-pub extern "C" fn geometry_distance(ax: u32, ay: u32, bx: u32, by: u32) -> u32
+pub fn geometry_distance(ax: u32, ay: u32, bx: u32, by: u32) -> u32
     ensures { result ≡ to_bits binary32 (distance_of (from_bits_of ax ay) (from_bits_of bx by)) }
 {
     float::to_bits(Point::from_bits(ax, ay).distance(Point::from_bits(bx, by)))
 }
 
-#[unsafe(no_mangle)]
-pub extern "C" fn geometry_length(x: u32, y: u32) -> u32
+pub fn geometry_length(x: u32, y: u32) -> u32
     ensures { result ≡ to_bits binary32 (length_of (from_bits_of x y)) }
 {
     float::to_bits(Point::from_bits(x, y).length())
 }
 
-#[unsafe(no_mangle)]
-pub extern "C" fn geometry_dot(ax: u32, ay: u32, bx: u32, by: u32) -> u32
+pub fn geometry_dot(ax: u32, ay: u32, bx: u32, by: u32) -> u32
     ensures { result ≡ to_bits binary32 (dot_of (from_bits_of ax ay) (from_bits_of bx by)) }
 {
     float::to_bits(Point::from_bits(ax, ay).dot(Point::from_bits(bx, by)))
 }
 
-#[unsafe(no_mangle)]
-pub extern "C" fn geometry_perp_dot(ax: u32, ay: u32, bx: u32, by: u32) -> u32
+pub fn geometry_perp_dot(ax: u32, ay: u32, bx: u32, by: u32) -> u32
     ensures { result ≡ to_bits binary32 (perp_dot_of (from_bits_of ax ay) (from_bits_of bx by)) }
 {
     float::to_bits(Point::from_bits(ax, ay).perp_dot(Point::from_bits(bx, by)))
 }
 
-#[unsafe(no_mangle)]
-pub extern "C" fn geometry_project_onto(x: u32, y: u32, rx: u32, ry: u32, out: &mut [u32; 2])
+pub fn geometry_project_onto(x: u32, y: u32, rx: u32, ry: u32, out: &mut [u32; 2])
     ensures { out.new ≡ point_bits (project_onto_of (from_bits_of x y) (from_bits_of rx ry)) }
 {
     let projected = Point::from_bits(x, y).project_onto(Point::from_bits(rx, ry));

@@ -86,8 +86,7 @@ fn ask(vertices: &[u8], polygons: &[u8], goal: u32, node: Node, k: usize) -> Ans
 // The step with number k, counted from 0, out of a node, where the goal is in this polygon: 1, and its record's eight words
 // in out. Otherwise out is unchanged: 0 where the node has no such step, document 01's number from 2 to 6 where the floor is
 // refused, and 100, which is none of document 01's, where the node does not stand on the floor.
-#[unsafe(no_mangle)]
-pub extern "C" fn steps_step(
+pub fn steps_step(
     vertices: &[u8],
     polygons: &[u8],
     goal: u32,

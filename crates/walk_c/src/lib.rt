@@ -72,8 +72,7 @@ fn put_parts(out: &mut [u32; 16], parts: [Part; 3], count: usize)
 // The number of intervals, 1 to 3, or 0 with out unchanged when kind is none of 0 LeftNonObservable, 1 Observable and 2
 // RightNonObservable. Words 5 * i to 5 * i + 3 of out are the bit patterns of interval i (start x, y, end x, y) and word
 // 5 * i + 4 its kind, for i below the answer; word 15 is the kind to go on with; every other word stays as it was.
-#[unsafe(no_mangle)]
-pub extern "C" fn geometry_walk_edge(
+pub fn geometry_walk_edge(
     rx: u32,
     ry: u32,
     i0x: u32,

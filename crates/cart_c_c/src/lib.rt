@@ -1,0 +1,83 @@
+#![tactic(auto)]
+// What C links of the search, the judge, its words and the read-out: each function of `cart_c` under its own name. A library is no static library, so these stand apart.
+
+ghost use Rattle.std.specs.Prelude.{◌≡◌, length};
+ghost use Rattle.judge.specs.Verdict.{verdict_of, verdict_number, verdict_record};
+ghost use Rattle.readout.specs.Readout.{readout_of, written_of, readout_number, readout_values};
+ghost use Rattle.says.specs.Words.{words_of, laid};
+ghost use Rattle.places.specs.Layout.{work_of};
+ghost use Rattle.search.specs.Whole.{lent_of, search_of};
+ghost use Rattle.cart_c.specs.Handed.{handed_of, handed_by};
+ghost use Rattle.cart_c.specs.Written.{value_written, at_of, record_written};
+
+// Document 01's number: 0 where the route is accepted, else 2 to 9 or 20 to 23, and the record of 4, 5, 6, 21, 22 and 23.
+#[unsafe(no_mangle)]
+pub extern "C" fn cart_judge(
+    vertices: &[u8],
+    polygons: &[u8],
+    question: &[u8],
+    route: &[u8],
+    fault: &mut usize,
+) -> u32
+    ensures value { result ≡ verdict_number (verdict_of 8 vertices.now polygons.now question.now route.now) }
+    ensures fault_after { let verdict = verdict_of 8 vertices.now polygons.now question.now route.now in
+        fault.new ≡ record_written (at_of (verdict_record verdict)) fault.old }
+{
+    cart_c::cart_judge(vertices, polygons, question, route, fault)
+}
+
+// Judges, then lists the points of an accepted route, x and y of each. Document 01's number: as cart_judge, or 13 where the
+// slice has no room for them. Other than 0, the slice stays as it was.
+#[unsafe(no_mangle)]
+pub extern "C" fn cart_read_out(
+    vertices: &[u8],
+    polygons: &[u8],
+    question: &[u8],
+    route: &[u8],
+    points: &mut [f32],
+    value: &mut usize,
+) -> u32
+    ensures result_value { let before = points.old in
+        let readout = readout_of 8 vertices.now polygons.now question.now route.now before in
+        result ≡ readout_number readout }
+    ensures points_after { let before = points.old in
+        points.new ≡ written_of 8 vertices.now polygons.now question.now route.now before }
+    ensures value_after { let before = points.old in
+        let readout = readout_of 8 vertices.now polygons.now question.now route.now before in
+        value.new ≡ value_written (readout_values readout) value.old }
+{
+    cart_c::cart_read_out(vertices, polygons, question, route, points, value)
+}
+
+// The words for a number at the front of the room, and how many bytes they take.
+#[unsafe(no_mangle)]
+pub extern "C" fn cart_words(number: u32, room: &mut [u8; 64]) -> usize
+    ensures value { result ≡ length (words_of number) }
+    ensures room_after { room.new ≡ laid (words_of number) room.old }
+{
+    cart_c::cart_words(number, room)
+}
+
+// The search. Document 01's number: 0 where a route was found, else 1 to 14; the counted steps; and on 0 the bytes written, with
+// 4, 5 and 6 the record at fault.
+#[unsafe(no_mangle)]
+pub extern "C" fn cart_search(
+    vertices: &[u8],
+    polygons: &[u8],
+    question: &[u8],
+    budget: usize,
+    floats: &mut [f32],
+    words: &mut [u32],
+    tree: &mut [u32],
+    table: &mut [u32],
+    out: &mut [u8],
+    steps: &mut usize,
+    value: &mut usize,
+) -> u32
+    ensures { let before = lent_of (work_of floats.old words.old tree.old) table.old in
+        let after = lent_of (work_of floats.new words.new tree.new) table.new in
+        let search = search_of 8 vertices.now polygons.now question.now budget before out.old in
+        handed_of result after out.new steps.new value.new ≡ handed_by search value.old }
+{
+    cart_c::cart_search(vertices, polygons, question, budget, floats, words, tree, table, out, steps, value)
+}
