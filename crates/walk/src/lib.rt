@@ -37,6 +37,7 @@ pub struct Walked {
 }
 
 impl Part {
+    #[tactic(auto, unfolding(crate::specs::Walk::part_of))]
     fn new(start: Point, end: Point, kind: SuccessorType) -> Part
         ensures { result ≡ part_of start end kind }
     {
@@ -48,6 +49,7 @@ impl Part {
 }
 
 impl Walked {
+    #[tactic(auto, unfolding(crate::specs::Walk::one_of))]
     fn one(a: Part, kind: SuccessorType) -> Walked
         ensures { result ≡ one_of a kind }
     {
@@ -58,6 +60,7 @@ impl Walked {
         }
     }
 
+    #[tactic(auto, unfolding(crate::specs::Walk::two_of))]
     fn two(a: Part, b: Part, kind: SuccessorType) -> Walked
         ensures { result ≡ two_of a b kind }
     {
@@ -68,6 +71,7 @@ impl Walked {
         }
     }
 
+    #[tactic(auto, unfolding(crate::specs::Walk::three_of))]
     fn three(a: Part, b: Part, c: Part, kind: SuccessorType) -> Walked
         ensures { result ≡ three_of a b c kind }
     {
@@ -80,6 +84,7 @@ impl Walked {
 }
 
 // What the right ray leaves of an edge: what is behind its cut, or all of it.
+#[tactic(auto, unfolding(crate::specs::Walk::left_of))]
 fn left_of(at: Crossing, edge: Segment) -> Segment
     ensures { result ≡ left_of at edge }
 {

@@ -16,6 +16,7 @@ pub struct Round {
 }
 
 impl Round {
+    #[tactic(auto, unfolding(crate::specs::Turns::begin_of))]
     pub fn begin(entry: usize, count: usize) -> Round
         ensures { result ≡ begin_of entry count }
     {
@@ -28,6 +29,7 @@ impl Round {
     }
 
     // Whether every edge but the entry edge has been walked.
+    #[tactic(auto, unfolding(crate::specs::Turns::is_over_of))]
     pub fn is_over(self) -> bool
         requires { self.taken < self.count }
         ensures { result ≡ is_over_of self }
@@ -36,6 +38,7 @@ impl Round {
     }
 
     // The number of the edge to walk now, from 0, wrapped round the polygon.
+    #[tactic(auto, unfolding(crate::specs::Turns::edge_number_of))]
     pub fn edge(self) -> usize
         requires { (self.entry < self.count) × (self.taken < self.count) }
         ensures { result ≡ edge_number_of self }
@@ -48,6 +51,7 @@ impl Round {
     }
 
     // After that edge, which left this kind.
+    #[tactic(auto, unfolding(crate::specs::Turns::next_of))]
     pub fn next(self, kind: SuccessorType) -> Round
         requires { self.taken < self.count }
         ensures { result ≡ next_of self kind }
