@@ -15,6 +15,7 @@ use steps::Node;
 use walk::{Part, Round, Walked};
 
 // The edge as one part, seen.
+#[tactic(auto, unfolding(crate::specs::Going::whole_of, walk::specs::Walk::one_of))]
 fn whole(edge: Segment) -> Walked
     ensures { result ≡ whole_of edge }
 {
@@ -31,6 +32,7 @@ fn whole(edge: Segment) -> Walked
 }
 
 // What the walk yields on an edge: from the seed the edge whole.
+#[tactic(auto, unfolding(crate::specs::Going::walk_by))]
 fn walk_by(node: Node, edge: Segment, kind: SuccessorType) -> Walked
     ensures { result ≡ walk_by node edge kind }
 {
@@ -43,6 +45,7 @@ fn walk_by(node: Node, edge: Segment, kind: SuccessorType) -> Walked
 }
 
 // The place of the corner v among n, or n.
+#[tactic(auto, unfolding(steps::specs::Steps::place_of))]
 pub fn place_of(polygons: &[u8], plan: &[u32; PLAN], p: usize, n: usize, v: u32) -> usize
     requires { Lies plan.now polygons.now p × (n ≤ slots_in plan.now) }
     ensures { result ≡ place_of (record_in plan.now polygons.now p) n v }
@@ -58,6 +61,7 @@ pub fn place_of(polygons: &[u8], plan: &[u32; PLAN], p: usize, n: usize, v: u32)
 }
 
 // What the walk yields on edge i, where kind is what the edge before it left.
+#[tactic(auto, unfolding(crate::specs::Going::walked_at))]
 pub fn walk(
     vertices: &[u8],
     polygons: &[u8],
