@@ -67,6 +67,7 @@ impl Trip {
 }
 
 impl Node {
+    #[tactic(auto, unfolding(crate::specs::Steps::seed_node))]
     pub fn seed(start: Point, polygon: u32) -> Node
         ensures { result ≡ seed_node start polygon }
     {
@@ -84,6 +85,7 @@ impl Node {
     }
 
     // The root after a step of this kind: the vertex that the way turns at, if it turns.
+    #[tactic(auto, unfolding(crate::specs::Steps::root_after))]
     pub fn root_after(self, vertices: &[u8], kind: SuccessorType) -> Point
         requires { (self.first < vertex_count vertices.now) × (self.second < vertex_count vertices.now) }
         ensures { result ≡ root_after (vertices_of vertices.now) self kind }
@@ -100,6 +102,7 @@ impl Node {
     }
 
     // Where a step leads to. Where the root is another one, the way has one more point and one more leg.
+    #[tactic(auto, unfolding(crate::specs::Steps::enter))]
     pub fn enter(self, vertices: &[u8], step: Step) -> Node
         requires { (self.first < vertex_count vertices.now) × (self.second < vertex_count vertices.now) × (self.points + 1 < 2 ^ 32) }
         ensures { result ≡ enter (vertices_of vertices.now) self step }
@@ -136,6 +139,7 @@ impl Node {
 
     // The way from the last root to the goal, round the interval's end if it has to turn there. Without a step in the chain
     // the goal is the only point.
+    #[tactic(auto, unfolding(crate::specs::World::ending_of))]
     pub fn ending(self, goal: Point) -> Ending
         requires { self.points + 2 < 2 ^ 32 }
         ensures { result ≡ ending_of goal self }
