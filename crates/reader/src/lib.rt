@@ -16,6 +16,7 @@ pub struct Reader<'a> {
 }
 
 // How many whole records there are from this number on.
+#[tactic(auto, unfolding(crate::specs::Reading::records_from, route::specs::Record::records))]
 fn records_from(route: &[u8], number: usize) -> usize
     ensures { result ≡ records_from route.now number }
 {
@@ -27,6 +28,7 @@ fn records_from(route: &[u8], number: usize) -> usize
 }
 
 // Whether the record with this number is this one, byte for byte. Where no record is left, none is.
+#[tactic(auto, unfolding(crate::specs::Reading::is_record))]
 fn is_record(route: &[u8], number: usize, sought: Record) -> bool
     ensures { result ≡ is_record route.now number sought }
 {
@@ -37,6 +39,7 @@ fn is_record(route: &[u8], number: usize, sought: Record) -> bool
 }
 
 // The number after this one. Where no record is left it stays, so that it never wraps.
+#[tactic(auto, using(crate::proofs::Passed::one_here, crate::proofs::Passed::goes_on, crate::proofs::Passed::stays))]
 fn number_after(route: &[u8], number: usize) -> usize
     ensures { result ≡ number_after route.now number }
 {
