@@ -40,6 +40,7 @@ const LARGEST: f32 = 3.4028235e38;
 
 impl Corner {
     // The way may turn at a vertex that the interval's end lands on and that is a turn vertex.
+    #[tactic(auto, unfolding(crate::specs::View::corner_on))]
     fn new(vertices: &[u8], plan: &[u32; PLAN], v: u32, end: Point, root: Point) -> Corner
         requires { VerticesPlanned plan.now vertices.now × (v < vertex_count_in plan.now) }
         ensures { result ≡ corner_on (vertices_of vertices.now) (is_marked plan.now) v end root }
@@ -78,6 +79,7 @@ impl View {
     }
 
     // Whether a part of this kind may be stepped over.
+    #[tactic(auto, unfolding(crate::specs::View::allows_of))]
     fn allows(self, kind: SuccessorType) -> bool
         ensures { result ≡ allows_of self kind }
     {
@@ -95,6 +97,7 @@ impl View {
     }
 
     // Whether a step over a part of this kind keeps the root.
+    #[tactic(auto, unfolding(crate::specs::View::keeps_by))]
     fn keeps(self, kind: SuccessorType) -> bool
         ensures { result ≡ keeps_by self kind }
     {
@@ -112,6 +115,7 @@ impl View {
     }
 
     // Whether the node sees a part of this kind through its interval. It does where it keeps its root; the seed has no interval.
+    #[tactic(auto, unfolding(crate::specs::View::clips_by))]
     fn clips(self, kind: SuccessorType) -> bool
         ensures { result ≡ clips_by self kind }
     {
@@ -123,6 +127,7 @@ impl View {
 
     // The neighbour that a part of this kind of an edge may be stepped over to. At a wall, and where the kind is not allowed,
     // there is none.
+    #[tactic(auto, unfolding(crate::specs::View::neighbour_by))]
     fn neighbour(self, polygons: &[u8], plan: &[u32; PLAN], edge: usize, kind: SuccessorType) -> u32
         requires { Lies plan.now polygons.now self.polygon × (edge < slots_in plan.now) }
         ensures { result ≡ neighbour_by (record_in plan.now polygons.now self.polygon) self edge kind }
@@ -135,6 +140,7 @@ impl View {
 
     // The step over a part of an edge of the node's polygon, or none. It is asked for in two, the neighbour first: at a wall, and
     // where the kind is not allowed, nothing is laid out for the clip.
+    #[tactic(auto, unfolding(crate::specs::View::step_by))]
     pub fn step(self, polygons: &[u8], plan: &[u32; PLAN], successor: Successor) -> Permitted
         requires { Lies plan.now polygons.now self.polygon × (successor.edge < slots_in plan.now) }
         ensures { result ≡ step_by (record_in plan.now polygons.now self.polygon) self successor }
@@ -160,6 +166,7 @@ impl View {
 }
 
 // What is seen of an interval, through the cone or not.
+#[tactic(auto, unfolding(crate::specs::View::clip_if))]
 fn clip_if(clips: bool, cone: Cone, interval: Segment) -> Clipped
     ensures { result ≡ clip_if clips cone interval }
 {
@@ -171,6 +178,7 @@ fn clip_if(clips: bool, cone: Cone, interval: Segment) -> Clipped
 
 // The step from a polygon to this neighbour over a part of their edge, or none. It takes the cone and no whole view, since
 // what a call takes is copied.
+#[tactic(auto, unfolding(crate::specs::View::over_by))]
 fn over(
     polygons: &[u8],
     plan: &[u32; PLAN],
@@ -208,6 +216,7 @@ fn over(
 }
 
 // A point of which neither coordinate is infinite or NaN.
+#[tactic(auto, unfolding(steps::specs::Steps::is_finite))]
 fn is_finite(point: Point) -> bool
     ensures { result ≡ is_finite point }
 {
@@ -217,6 +226,7 @@ fn is_finite(point: Point) -> bool
 }
 
 // Equal ends, or an end that is not finite, are no interval to step over.
+#[tactic(auto, unfolding(steps::specs::Steps::is_interval))]
 pub fn is_interval(interval: Segment) -> bool
     ensures { result ≡ is_interval interval }
 {
