@@ -39,6 +39,7 @@ impl Record {
     pub const BYTES: usize = 32;
 
     // Where every route begins: in this polygon, at this point.
+    #[tactic(auto, unfolding(crate::specs::Records::seed_record, route::specs::Record::seed_words))]
     pub fn seed(polygon: u32, start: Point) -> Record
         ensures { result ≡ seed_record polygon start }
     {
@@ -57,6 +58,7 @@ impl Record {
     }
 
     // How a route ends: how many points it has, where the last of them is, and how long it is.
+    #[tactic(auto, unfolding(crate::specs::Records::end_record, route::specs::Record::end_words))]
     pub fn end(points: u32, goal: Point, length: f32) -> Record
         ensures { result ≡ end_record points goal length }
     {
@@ -75,6 +77,7 @@ impl Record {
     }
 
     // A step.
+    #[tactic(auto, unfolding(crate::specs::Records::step_record, route::specs::Record::step_words))]
     pub fn step(step: Step) -> Record
         ensures { result ≡ step_record step }
     {
@@ -96,6 +99,7 @@ impl Record {
     }
 
     // Whether the record with this number in a route's bytes is this one, byte for byte.
+    #[tactic(auto, unfolding(counts::specs::Counts::every))]
     pub fn is_at(self, route: &[u8], i: usize) -> bool
         requires { (i + 1) * 32 ≤ length route.now }
         ensures { result ≡ same_bytes (record_at route.now i) (record_bytes self) }
@@ -112,6 +116,7 @@ impl Record {
     }
 
     // Stores the record's bytes as the one with this number.
+    #[tactic(auto, unfolding(route::specs::Record::words_bytes, route::specs::Record::put_record, crate::specs::Records::record_bytes))]
     pub fn write(self, out: &mut [u8], i: usize)
         requires { (i + 1) * 32 ≤ length out.old }
         ensures { out.new ≡ put_record out.old i (record_bytes self) }
@@ -126,6 +131,7 @@ impl Record {
 }
 
 // The kind that a number stands for. Whoever reads it has to know that it stands for one.
+#[tactic(auto, unfolding(crate::specs::Records::kind_in))]
 fn kind_in(number: u32) -> SuccessorType
     ensures { result ≡ kind_in number }
 {
@@ -139,6 +145,7 @@ fn kind_in(number: u32) -> SuccessorType
 }
 
 // The point whose two coordinates stand here.
+#[tactic(auto, unfolding(crate::specs::Records::point_in))]
 fn point_in(route: &[u8], at: usize) -> Point
     requires { at + 8 ≤ length route.now }
     ensures { result ≡ point_in route.now at }
@@ -189,6 +196,7 @@ pub fn points_at(route: &[u8], i: usize) -> u32
 }
 
 // Whether a point's two words stand here.
+#[tactic(auto, unfolding(crate::specs::Records::point_stands))]
 fn is_point(point: Point, route: &[u8], at: usize) -> bool
     requires { at + 8 ≤ length route.now }
     ensures { result ≡ point_stands point route.now at }
@@ -198,6 +206,7 @@ fn is_point(point: Point, route: &[u8], at: usize) -> bool
 }
 
 // Whether the step that is record i has this interval.
+#[tactic(auto, unfolding(crate::specs::Records::interval_stands))]
 pub fn has_interval(route: &[u8], i: usize, interval: Segment) -> bool
     requires { (i + 1) * 32 ≤ length route.now }
     ensures { result ≡ interval_stands interval route.now i }
@@ -207,6 +216,7 @@ pub fn has_interval(route: &[u8], i: usize, interval: Segment) -> bool
 }
 
 // The step that a record is, where it is one: so a step need not be handed on beside its record.
+#[tactic(auto, unfolding(crate::specs::Records::step_in))]
 pub fn step_in(route: &[u8], i: usize) -> Step
     requires { (i + 1) * 32 ≤ length route.now }
     ensures { result ≡ step_in route.now i }
@@ -224,6 +234,7 @@ pub fn step_in(route: &[u8], i: usize) -> Step
 }
 
 // 20: whole records, from 2 to 4,097.
+#[tactic(auto, unfolding(route::specs::Judge::length_right, route::specs::Record::records))]
 pub fn length_right(route: &[u8]) -> bool
     ensures { result ≡ length_right route.now }
 {
