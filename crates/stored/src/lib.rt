@@ -14,6 +14,7 @@ use point::Point;
 pub const UNUSED: u32 = 0xFFFF_FFFF;
 
 // A vertex as it is stored.
+#[tactic(auto, unfolding(crate::specs::Stored::vertex_at))]
 pub fn stored_vertex(vertices: &[u8], v: usize) -> Point
     requires { v < vertex_count vertices.now }
     ensures { result ≡ vertex_at vertices.now v }
@@ -78,6 +79,7 @@ pub fn corner_count(polygons: &[u8], plan: &[u32; PLAN], p: usize) -> usize
 }
 
 // The corner behind corner i, and the first one behind the last.
+#[tactic(auto, unfolding(crate::specs::Stored::corner_after))]
 pub fn corner_after(polygons: &[u8], plan: &[u32; PLAN], p: usize, i: usize) -> u32
     requires { Lies plan.now polygons.now p × (i < slots_in plan.now) }
     ensures { result ≡ corner_after (record_in plan.now polygons.now p) i }
@@ -93,6 +95,7 @@ pub fn corner_after(polygons: &[u8], plan: &[u32; PLAN], p: usize, i: usize) -> 
 }
 
 // The start of a question.
+#[tactic(auto, unfolding(crate::specs::Stored::question_of))]
 pub fn question_start(question: &[u8]) -> Point
     requires { length question.now ≡ 16 }
     ensures { result ≡ (question_of question.now).start }
@@ -101,6 +104,7 @@ pub fn question_start(question: &[u8]) -> Point
 }
 
 // The goal of a question.
+#[tactic(auto, unfolding(crate::specs::Stored::question_of))]
 pub fn question_goal(question: &[u8]) -> Point
     requires { length question.now ≡ 16 }
     ensures { result ≡ (question_of question.now).goal }
