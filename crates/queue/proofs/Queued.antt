@@ -1,6 +1,6 @@
 -- A queue in lent words. Whatever the words were, `queue_of` makes them the tree of the places that are meant: the words then say which these are, word 1 is
 -- the least of them, there are as many words as before, and those behind stay. And words that are a tree are such a queue already. Assumes nothing.
-use Prim.Native.Nat.{ℕ, ◌+◌, ◌*◌, ◌≤◌, ◌<◌}
+use Prim.Native.Nat.{ℕ, ◌*◌, ◌≤◌, ◌<◌}
 use native.Mathlib.Omega.{arith}
 use mathlib.Core.Path.{◌≡◌, refl, sym, ap, ◌∙◌}
 use mathlib.Core.Bool.{Bool, true, false}

@@ -12,6 +12,7 @@ ghost use Rattle.queue.specs.Climb.{repaired, stays, climbed, path_repaired};
 pub const NONE: u32 = 0xFFFF_FFFF;
 
 // Whether place i comes before place j: its f is smaller, or equal and its number lower.
+#[tactic(auto, unfolding(crate::specs::Queue::before, crate::specs::Words::column))]
 fn before(fs: &[f32], stride: usize, at: usize, i: usize, j: usize) -> bool
     requires { (i * stride + at < length fs.now) × (j * stride + at < length fs.now) }
     ensures { result ≡ before (column fs.now stride at) i j }
@@ -37,6 +38,7 @@ fn greater(i: usize, j: usize) -> usize
 }
 
 // Of two words of which one at most is a place, that one.
+#[tactic(auto, unfolding(crate::specs::Queue::lone_of))]
 fn lone(n: usize, a: u32, b: u32) -> u32
     ensures { result ≡ lone_of n a b }
 {
@@ -48,6 +50,7 @@ fn lone(n: usize, a: u32, b: u32) -> u32
 
 // The better of two words. One that is no place, as NONE, loses. One test asks whether both are places, and none asks which of them is:
 // that could not be foreseen.
+#[tactic(auto, using(crate::proofs::Ways::one_at_most, crate::proofs::Ways::left_inside, crate::proofs::Ways::right_inside, crate::proofs::Ways::left_better, crate::proofs::Ways::right_better))]
 fn better(fs: &[f32], stride: usize, at: usize, n: usize, a: u32, b: u32) -> u32
     requires { Rows n stride at fs.now }
     ensures { result ≡ better (column fs.now stride at) n a b }
@@ -64,6 +67,7 @@ fn better(fs: &[f32], stride: usize, at: usize, n: usize, a: u32, b: u32) -> u32
 }
 
 // Makes word k the better of its two, and answers whether it stays what it was.
+#[tactic(auto, using(crate::proofs::Ways::repair_words, crate::proofs::Ways::repair_stays))]
 fn repair(tree: &mut [u32], fs: &[f32], stride: usize, at: usize, n: usize, k: usize) -> bool
     requires rows { Rows n stride at fs.now }
     requires n_in_bounds { (2 * n ≤ length tree.old) × (k < n) }
@@ -79,6 +83,7 @@ fn repair(tree: &mut [u32], fs: &[f32], stride: usize, at: usize, n: usize, k: u
 }
 
 // Repairs word k, then the one above it, up to word 1. It ends at a word that stays what it was: every word above that is right as it is.
+#[tactic(auto, using(crate::proofs::Ways::climb_begins, crate::proofs::Ways::climb_long, crate::proofs::Ways::climb_stays, crate::proofs::Ways::climb_on, crate::proofs::Ways::climb_over))]
 fn climb(tree: &mut [u32], fs: &[f32], stride: usize, at: usize, n: usize, from: usize)
     requires rows { Rows n stride at fs.now }
     requires n_in_bounds { (2 * n ≤ length tree.old) × (from < n) }
@@ -94,6 +99,7 @@ fn climb(tree: &mut [u32], fs: &[f32], stride: usize, at: usize, n: usize, from:
 }
 
 // Place i's own word: the place if it is queued.
+#[tactic(auto, unfolding(crate::specs::Queue::own_of))]
 fn own(i: usize, queued: bool) -> u32
     requires { i < none }
     ensures { result ≡ own_of i queued }
@@ -105,6 +111,7 @@ fn own(i: usize, queued: bool) -> u32
 }
 
 // Says at place i's own word whether it is queued, and repairs the path above it.
+#[tactic(auto, using(crate::proofs::Ways::path_told))]
 fn place(tree: &mut [u32], fs: &[f32], stride: usize, at: usize, n: usize, i: usize, queued: bool)
     requires rows { Rows n stride at fs.now }
     requires room { Room n tree.old }
@@ -116,6 +123,7 @@ fn place(tree: &mut [u32], fs: &[f32], stride: usize, at: usize, n: usize, i: us
 }
 
 // Queues place i. The words are the tree of the places that they say are queued; then they are that of these and i.
+#[tactic(auto, using(crate::proofs::Ways::place_told))]
 pub fn push(tree: &mut [u32], fs: &[f32], stride: usize, at: usize, n: usize, i: usize)
     requires rows { Rows n stride at fs.now }
     requires room { Room n tree.old }
@@ -129,6 +137,7 @@ pub fn push(tree: &mut [u32], fs: &[f32], stride: usize, at: usize, n: usize, i:
 }
 
 // Takes place i out of the queue, likewise.
+#[tactic(auto, using(crate::proofs::Ways::place_told))]
 pub fn remove(tree: &mut [u32], fs: &[f32], stride: usize, at: usize, n: usize, i: usize)
     requires rows { Rows n stride at fs.now }
     requires room { Room n tree.old }
