@@ -39,6 +39,7 @@ fn lesser(a: usize, b: usize) -> usize
 }
 
 // How many nodes the lent work buffers hold.
+#[tactic(auto, unfolding(crate::specs::Layout::places_in))]
 pub fn places_in(floats: &[f32], words: &[u32], queue: &[u32]) -> usize
     ensures { result ≡ places_in (work_of floats.now words.now queue.now) }
 {
@@ -47,6 +48,7 @@ pub fn places_in(floats: &[f32], words: &[u32], queue: &[u32]) -> usize
 }
 
 // Stores the floats of the node at place i.
+#[tactic(auto, unfolding(crate::specs::Layout::put_floats, crate::specs::Layout::puts))]
 pub fn put_floats(floats: &mut [f32], i: usize, node: Node, f: f32)
     requires { (i + 1) * floats_per_place ≤ length floats.old }
     ensures { floats.new ≡ put_floats floats.old i node f }
@@ -68,6 +70,7 @@ pub fn put_floats(floats: &mut [f32], i: usize, node: Node, f: f32)
 
 // Stores the words of the node at place i: how it was entered, from which place, after how many steps, and which record its
 // root has.
+#[tactic(auto, unfolding(crate::specs::Layout::put_words, crate::specs::Layout::puts))]
 pub fn put_words(
     words: &mut [u32],
     i: usize,
@@ -92,6 +95,7 @@ pub fn put_words(
 }
 
 // The interval of the node at place i.
+#[tactic(auto, unfolding(crate::specs::Layout::interval_in, crate::specs::Layout::float_at))]
 fn interval_at(floats: &[f32], i: usize) -> Segment
     requires { (i + 1) * floats_per_place ≤ length floats.now }
     ensures { result ≡ interval_in floats.now i }
@@ -103,6 +107,7 @@ fn interval_at(floats: &[f32], i: usize) -> Segment
 }
 
 // The place from which the node at place i was entered.
+#[tactic(auto, unfolding(crate::specs::Layout::parent_in, crate::specs::Layout::word_at))]
 pub fn parent_at(words: &[u32], i: usize) -> u32
     requires { (i + 1) * words_per_place ≤ length words.now }
     ensures { result ≡ parent_in words.now i }
@@ -111,6 +116,7 @@ pub fn parent_at(words: &[u32], i: usize) -> u32
 }
 
 // The polygon of that place, which was left for the node's own.
+#[tactic(auto, unfolding(crate::specs::Layout::left_in, crate::specs::Layout::word_at))]
 fn left_at(words: &[u32], i: usize) -> u32
     requires { ((i + 1) * words_per_place ≤ length words.now) × ((parent_in words.now i + 1) * words_per_place ≤ length words.now) }
     ensures { result ≡ left_in words.now i }
@@ -120,6 +126,7 @@ fn left_at(words: &[u32], i: usize) -> u32
 }
 
 // The node at place i, of which another place is the parent.
+#[tactic(auto, unfolding(crate::specs::Layout::node_in, crate::specs::Layout::float_at, crate::specs::Layout::word_at))]
 pub fn node_at(floats: &[f32], words: &[u32], i: usize) -> Node
     requires { ((i + 1) * floats_per_place ≤ length floats.now) × ((i + 1) * words_per_place ≤ length words.now)
         × ((parent_in words.now i + 1) * words_per_place ≤ length words.now) }
@@ -145,6 +152,7 @@ pub fn node_at(floats: &[f32], words: &[u32], i: usize) -> Node
 }
 
 // A step's kind from its number.
+#[tactic(auto, unfolding(crate::specs::Layout::kind_of))]
 fn kind_of(number: u32) -> SuccessorType
     ensures { result ≡ kind_of number }
 {
@@ -158,6 +166,7 @@ fn kind_of(number: u32) -> SuccessorType
 }
 
 // The step by which the node at place i was entered.
+#[tactic(auto, unfolding(crate::specs::Layout::step_in, crate::specs::Layout::word_at))]
 pub fn step_at(floats: &[f32], words: &[u32], i: usize) -> Step
     requires { ((i + 1) * floats_per_place ≤ length floats.now) × ((i + 1) * words_per_place ≤ length words.now) }
     ensures { result ≡ step_in floats.now words.now i }
@@ -175,6 +184,7 @@ pub fn step_at(floats: &[f32], words: &[u32], i: usize) -> Step
 }
 
 // The f of the node at place i.
+#[tactic(auto, unfolding(queue::specs::Words::column))]
 pub fn f_at(floats: &[f32], i: usize) -> f32
     requires { (i + 1) * floats_per_place ≤ length floats.now }
     ensures { result ≡ column floats.now floats_per_place f_cell i }
@@ -183,6 +193,7 @@ pub fn f_at(floats: &[f32], i: usize) -> f32
 }
 
 // How many steps led to the node at place i.
+#[tactic(auto, unfolding(crate::specs::Layout::depth_in, crate::specs::Layout::word_at))]
 pub fn depth_at(words: &[u32], i: usize) -> u32
     requires { (i + 1) * words_per_place ≤ length words.now }
     ensures { result ≡ depth_in words.now i }
@@ -191,6 +202,7 @@ pub fn depth_at(words: &[u32], i: usize) -> u32
 }
 
 // The number of the record that the root of the node at place i has.
+#[tactic(auto, unfolding(crate::specs::Layout::number_in, crate::specs::Layout::word_at))]
 pub fn number_at(words: &[u32], i: usize) -> u32
     requires { (i + 1) * words_per_place ≤ length words.now }
     ensures { result ≡ number_in words.now i }
@@ -199,6 +211,7 @@ pub fn number_at(words: &[u32], i: usize) -> u32
 }
 
 // The root of record r.
+#[tactic(auto, unfolding(crate::specs::Layout::record_root, crate::specs::Layout::float_at))]
 fn record_root(floats: &[f32], r: usize) -> Point
     requires { (r + 1) * floats_per_place ≤ length floats.now }
     ensures { result ≡ record_root floats.now r }
@@ -208,6 +221,7 @@ fn record_root(floats: &[f32], r: usize) -> Point
 }
 
 // The distance of record r.
+#[tactic(auto, unfolding(crate::specs::Layout::record_distance, crate::specs::Layout::float_at))]
 pub fn record_distance(floats: &[f32], r: usize) -> f32
     requires { (r + 1) * floats_per_place ≤ length floats.now }
     ensures { result ≡ record_distance floats.now r }
@@ -216,6 +230,7 @@ pub fn record_distance(floats: &[f32], r: usize) -> f32
 }
 
 // The first of so many records whose root is this one by ==, or their number.
+#[tactic(auto, using(counts::proofs::Laws::first_is), unfolding(crate::specs::Layout::record_for))]
 pub fn record_for(floats: &[f32], records: usize, root: Point) -> usize
     requires { records * floats_per_place ≤ length floats.now }
     ensures { result ≡ record_for floats.now records root }
@@ -231,6 +246,7 @@ pub fn record_for(floats: &[f32], records: usize, root: Point) -> usize
 }
 
 // Makes record r.
+#[tactic(auto, unfolding(crate::specs::Layout::record_put, crate::specs::Layout::puts))]
 pub fn put_record(floats: &mut [f32], r: usize, root: Point, distance: f32)
     requires { (r + 1) * floats_per_place ≤ length floats.old }
     ensures { floats.new ≡ record_put floats.old r root distance }
@@ -242,6 +258,7 @@ pub fn put_record(floats: &mut [f32], r: usize, root: Point, distance: f32)
 }
 
 // Changes the distance of record r.
+#[tactic(auto, unfolding(crate::specs::Layout::distance_put))]
 pub fn put_distance(floats: &mut [f32], r: usize, distance: f32)
     requires { (r + 1) * floats_per_place ≤ length floats.old }
     ensures { floats.new ≡ distance_put floats.old r distance }
