@@ -13,6 +13,7 @@ use point::Point;
 use stored::{UNUSED, corner, corner_after, corner_count, neighbour, slot};
 
 // 2 and 3: whole records of a size, from 1 to a limit.
+#[tactic(auto, unfolding(crate::specs::Tests::length_right))]
 pub fn length_right(bytes: &[u8], size: usize, most: usize) -> bool
     requires { 0 < size }
     ensures { result ≡ length_right size most bytes.now }
@@ -22,6 +23,7 @@ pub fn length_right(bytes: &[u8], size: usize, most: usize) -> bool
 }
 
 // 4: finite, of magnitude at most the limit.
+#[tactic(auto, unfolding(crate::specs::Tests::coordinate_right))]
 pub fn coordinate_right(x: f32) -> bool
     ensures { result ≡ coordinate_right x }
 {

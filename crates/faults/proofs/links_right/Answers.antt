@@ -1,0 +1,20 @@
+use Rattle.std.proofs.Common.{ap, not}
+use Rattle.faults.proofs.Ways.{links_all, links_behind, links_wrong, linked_more}
+use Rattle.faults.proofs.links_right.Goals as goal
+
+pub returns-then-corner : goal.returns-then-corner
+returns-then-corner c =
+    links_behind c.loop-i.invariant c.requires.0 c.requires.1 c.loop-i-test.true c.corner.ensures c.if-corner.true c.rest_unused.ensures
+
+pub returns-then-not-link_right : goal.returns-then-not-link_right
+returns-then-not-link_right c =
+    links_wrong c.loop-i.invariant c.requires.0 c.requires.1 c.loop-i-test.true c.corner.ensures c.if-corner.false c.link_right.ensures
+    (ap not c.if-not-link_right.true)
+
+pub loop-i-preserved : goal.loop-i-preserved
+loop-i-preserved c =
+    linked_more c.loop-i.invariant c.requires.0 c.requires.1 c.loop-i-test.true c.corner.ensures c.if-corner.false c.link_right.ensures
+    (ap not c.if-not-link_right.false)
+
+pub returns : goal.returns
+returns c = links_all c.loop-i.invariant c.requires.0 c.requires.1 c.loop-i-test.false
