@@ -48,6 +48,7 @@ fn is_right(
 
 // A polygon contains a point that is Right of none of its edges. Nearly every polygon has one of the first edges on the wrong side, so
 // its corners are not counted before.
+#[tactic(auto, using(stored::proofs::Records::lies, crate::proofs::Containing::none_yet, crate::proofs::Containing::is_out, crate::proofs::Containing::in_with_slots, crate::proofs::Containing::in_here, crate::proofs::Containing::none_more))]
 pub fn contains(
     vertices: &[u8],
     polygons: &[u8],
@@ -73,6 +74,7 @@ pub fn contains(
 }
 
 // The lowest-numbered polygon that contains a point, or the number of polygons.
+#[tactic(auto, unfolding(crate::specs::Where::polygon_of), using(counts::proofs::Laws::first_is, stored::proofs::Records::polygons_counted, crate::proofs::Inside::listed_of))]
 pub fn polygon_of(vertices: &[u8], polygons: &[u8], plan: &[u32; PLAN], point: Point) -> usize
     requires { Ground plan.now vertices.now polygons.now }
     ensures { result ≡ polygon_of (floor_in plan.now vertices.now polygons.now) point }

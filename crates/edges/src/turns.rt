@@ -10,6 +10,7 @@ use plan::{PLAN, mark};
 use stored::{UNUSED, corner, corner_after, neighbour};
 
 // Marks both ends of edge i of polygon p, if it is a wall.
+#[tactic(auto, unfolding(crate::specs::Where::mark_edge))]
 fn mark_edge(polygons: &[u8], plan: &[u32; PLAN], p: usize, i: usize, marks: &mut [u32; PLAN])
     requires lies { Lies plan.now polygons.now p × (i < corner_count (record_in plan.now polygons.now p)) }
     requires corners { Corners (vertex_count_in plan.now) (record_in plan.now polygons.now p) × (vertex_count_in plan.now ≤ most_vertices) }
@@ -24,6 +25,7 @@ fn mark_edge(polygons: &[u8], plan: &[u32; PLAN], p: usize, i: usize, marks: &mu
 }
 
 // Marks the ends of the walls of polygon p. It goes to the first unused slot, so that the corners are not counted before.
+#[tactic(auto, unfolding(crate::specs::Where::mark_edges), using(stored::proofs::Records::upto_none, stored::proofs::Records::ends_here, stored::proofs::Records::goes_on, stored::proofs::Records::upto_more))]
 fn mark_edges(polygons: &[u8], plan: &[u32; PLAN], p: usize, marks: &mut [u32; PLAN])
     requires lies { Lies plan.now polygons.now p }
     requires corners { Corners (vertex_count_in plan.now) (record_in plan.now polygons.now p) × (vertex_count_in plan.now ≤ most_vertices) }
@@ -42,6 +44,7 @@ fn mark_edges(polygons: &[u8], plan: &[u32; PLAN], p: usize, marks: &mut [u32; P
 }
 
 // Marks the ends of the walls of every polygon.
+#[tactic(auto, unfolding(crate::specs::Where::mark_polygons, crate::specs::Where::turns_marked), using(stored::proofs::Records::lies, stored::proofs::Records::polygon_read, stored::proofs::Records::polygons_counted))]
 fn mark_polygons(polygons: &[u8], plan: &[u32; PLAN], marks: &mut [u32; PLAN])
     requires polygons_planned { PolygonsPlanned plan.now polygons.now × (vertex_count_in plan.now ≤ most_vertices) }
     requires by_index { (p : ℕ) → p < polygon_count_in plan.now → Corners (vertex_count_in plan.now) (record_in plan.now polygons.now p) }
