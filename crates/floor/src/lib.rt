@@ -231,6 +231,7 @@ pub fn look_at(vertices: &[u8], polygons: &[u8], question: &[u8]) -> Look
 
 impl Refusal {
     // The number in document 01's table, and the record at fault where there is one.
+    #[tactic(auto, unfolding(crate::specs::Look::refusal_told))]
     pub fn told(self) -> Told
         ensures { result ≡ refusal_told self }
     {
