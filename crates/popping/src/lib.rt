@@ -177,6 +177,7 @@ fn visit(
 }
 
 // Takes the least place out of the queue, counts one, and looks at it.
+#[tactic(auto, unfolding(machine::specs::Search::counted))]
 fn pop(
     vertices: &[u8],
     polygons: &[u8],
@@ -271,6 +272,7 @@ fn run(
 }
 
 // The seed takes place 0, and its root is on record with distance 0.
+#[tactic(auto, unfolding(machine::specs::Search::planted))]
 fn plant(task: Task, seed: Node, floats: &mut [f32], words: &mut [u32], tree: &mut [u32])
     requires { Room task.places (work_of floats.old words.old tree.old) × (1 ≤ task.places) }
     ensures { let before = work_of floats.old words.old tree.old in
