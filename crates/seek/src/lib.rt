@@ -23,6 +23,7 @@ use stored::UNUSED;
 use walk::{Part, Round};
 
 // Whether the record is of a step over this edge of polygon p, as far as the edge says: no wall, its vertices, the neighbour.
+#[tactic(auto, unfolding(crate::specs::Seek::edge_stands))]
 fn is_over(
     polygons: &[u8],
     plan: &[u32; PLAN],
@@ -44,6 +45,7 @@ fn is_over(
 }
 
 // Whether what is seen is an interval to step over, and the record's.
+#[tactic(auto, unfolding(crate::specs::Seek::ends_at))]
 fn ends_there(seen: Clipped, route: &[u8], i: usize) -> bool
     requires { (i + 1) * 32 ≤ length route.now }
     ensures { result ≡ ends_at seen route.now i }
@@ -57,6 +59,7 @@ fn ends_there(seen: Clipped, route: &[u8], i: usize) -> bool
 }
 
 // The way may turn at a turn vertex that the interval's end lands on.
+#[tactic(auto, unfolding(crate::specs::Seek::turns_at))]
 fn turns_at(vertices: &[u8], plan: &[u32; PLAN], v: u32, end: Point, root: Point) -> bool
     requires { VerticesPlanned plan.now vertices.now × (v < vertex_count_in plan.now) }
     ensures { result ≡ turns_at (vertices_of vertices.now) (is_marked plan.now) v end root }
@@ -66,6 +69,7 @@ fn turns_at(vertices: &[u8], plan: &[u32; PLAN], v: u32, end: Point, root: Point
 }
 
 // Whether a step of this kind may be taken out of the node.
+#[tactic(auto, unfolding(steps::specs::Steps::is_allowed, crate::specs::Seek::turns_at))]
 fn allows(vertices: &[u8], plan: &[u32; PLAN], node: Node, kind: SuccessorType) -> bool
     requires { VerticesPlanned plan.now vertices.now × (node.first < vertex_count_in plan.now) × (node.second < vertex_count_in plan.now) }
     ensures { result ≡ is_allowed (vertices_of vertices.now) (is_marked plan.now) node kind }
@@ -81,6 +85,7 @@ fn allows(vertices: &[u8], plan: &[u32; PLAN], node: Node, kind: SuccessorType) 
 }
 
 // What the node sees of an interval of this kind.
+#[tactic(auto, unfolding(steps::specs::Steps::clipped))]
 fn see(vertices: &[u8], node: Node, kind: SuccessorType, interval: Segment) -> Clipped
     requires { (node.first < vertex_count vertices.now) × (node.second < vertex_count vertices.now) }
     ensures { result ≡ clipped (vertices_of vertices.now) node kind interval }
@@ -98,6 +103,7 @@ fn see(vertices: &[u8], node: Node, kind: SuccessorType, interval: Segment) -> C
 }
 
 // Whether the record is of a step over this part of an edge, as far as the part says.
+#[tactic(auto, unfolding(crate::specs::Seek::part_stands))]
 fn is_part(
     vertices: &[u8],
     plan: &[u32; PLAN],
