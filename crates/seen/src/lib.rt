@@ -40,6 +40,7 @@ pub enum Spot {
 }
 
 // How many entries the lent words hold.
+#[tactic(auto, unfolding(crate::specs::Table::entries_in))]
 pub fn entries_in(table: &[u32]) -> usize
     ensures { result ≡ entries_in table.now }
 {
@@ -51,6 +52,7 @@ pub fn entries_in(table: &[u32]) -> usize
 }
 
 // No entry is used.
+#[tactic(auto, unfolding(crate::specs::Table::entries_in, crate::specs::Table::laid_out))]
 pub fn lay_out(table: &mut [u32])
     ensures { table.new ≡ laid_out table.old }
 {
@@ -59,6 +61,7 @@ pub fn lay_out(table: &mut [u32])
 }
 
 // The ten words by which a node is told apart.
+#[tactic(auto, unfolding(crate::specs::Table::key_of))]
 fn key_of(node: Node) -> [u32; 10]
     ensures { result ≡ key_of node }
 {
@@ -81,6 +84,7 @@ fn key_of(node: Node) -> [u32; 10]
 }
 
 // The sum of the ten words, wrapped at 32 bits.
+#[tactic(auto, unfolding(crate::specs::Table::sum_to))]
 fn sum_of(key: &[u32; 10]) -> u32
     ensures { result ≡ sum_to key.now words_per_entry }
 {
@@ -94,6 +98,7 @@ fn sum_of(key: &[u32; 10]) -> u32
 }
 
 // Whether an entry is used.
+#[tactic(auto, unfolding(crate::specs::Table::entry_word, crate::specs::Table::is_used))]
 fn is_used(table: &[u32], j: usize) -> bool
     requires { (j + 1) * words_per_entry ≤ length table.now }
     ensures { result ≡ is_used table.now j }
@@ -102,6 +107,7 @@ fn is_used(table: &[u32], j: usize) -> bool
 }
 
 // Whether all ten words of an entry are those of the key.
+#[tactic(auto, unfolding(crate::specs::Table::entry_word, crate::specs::Table::holds))]
 fn holds(table: &[u32], j: usize, key: &[u32; 10]) -> bool
     requires { (j + 1) * words_per_entry ≤ length table.now }
     ensures { result ≡ holds table.now key.now j }
@@ -118,6 +124,7 @@ fn holds(table: &[u32], j: usize, key: &[u32; 10]) -> bool
 }
 
 // The next entry, behind the last the first.
+#[tactic(auto, unfolding(crate::specs::Table::next))]
 fn next(entries: usize, j: usize) -> usize
     requires { j < entries }
     ensures { result ≡ next entries j }
@@ -129,6 +136,7 @@ fn next(entries: usize, j: usize) -> usize
 }
 
 // Looks a key up: from the slot that its sum gives to the entry that holds it, or to an unused one, or all the way round.
+#[tactic(auto, unfolding(crate::specs::Table::first_slot))]
 fn look_up(table: &[u32], key: &[u32; 10]) -> Spot
     ensures { let held = table.now in result ≡ found_in held key.now (entries_in held) }
 {
@@ -152,6 +160,7 @@ fn look_up(table: &[u32], key: &[u32; 10]) -> Spot
 }
 
 // Stores a key as an entry.
+#[tactic(auto, unfolding(crate::specs::Table::stored_to, crate::specs::Table::entry_put))]
 fn put_entry(table: &mut [u32], j: usize, key: &[u32; 10])
     requires { (j + 1) * words_per_entry ≤ length table.old }
     ensures { table.new ≡ entry_put table.old j key.now }
@@ -165,6 +174,7 @@ fn put_entry(table: &mut [u32], j: usize, key: &[u32; 10])
 }
 
 // Looks a node up, and enters it where it is new. Where nothing is recorded the table stays, and every node is new.
+#[tactic(auto, unfolding(crate::specs::Table::remembered))]
 pub fn remember(recording: bool, table: &mut [u32], node: Node) -> Entry
     requires records { recording ≡ true → Records table.old }
     requires key { IsKey (key_of node) }
