@@ -12,7 +12,9 @@ use floor::FloorLook;
 use plan::PLAN;
 
 // Document 01's number: 0 where the floor is accepted, else 2 to 6.
-pub fn floor_look(vertices: &[u8], polygons: &[u8]) -> u32
+#[tactic(auto, unfolding(crate::specs::Numbers::look_number))]
+#[unsafe(no_mangle)]
+pub extern "C" fn floor_look(vertices: &[u8], polygons: &[u8]) -> u32
     ensures { result ≡ look_number (floor_look_of 8 vertices.now polygons.now) }
 {
     let mut plan = [0u32; PLAN];
@@ -23,6 +25,7 @@ pub fn floor_look(vertices: &[u8], polygons: &[u8]) -> u32
 }
 
 // Whether vertex v turns, by the plan: 1 or 0. A number that no vertex has turns nowhere.
+#[tactic(auto, unfolding(crate::specs::Numbers::mark_number))]
 fn mark(plan: &[u32; PLAN], v: usize) -> u32
     ensures { result ≡ mark_number (is_marked plan.now) v }
 {
@@ -36,7 +39,9 @@ fn mark(plan: &[u32; PLAN], v: usize) -> u32
 }
 
 // The same, with the look at the floor before it: document 01's number from 2 to 6 where it is refused.
-pub fn floor_turn(vertices: &[u8], polygons: &[u8], v: usize) -> u32
+#[tactic(auto, unfolding(crate::specs::Numbers::turn_number))]
+#[unsafe(no_mangle)]
+pub extern "C" fn floor_turn(vertices: &[u8], polygons: &[u8], v: usize) -> u32
     ensures { result ≡ turn_number (floor_look_of 8 vertices.now polygons.now)
         (mark_number (marks_of (floor_of 8 vertices.now polygons.now)) v) }
 {
