@@ -12,6 +12,7 @@ use told::Told;
 
 // The line of what is told, as "22 at record 3: not a permitted step", and how many bytes it takes, its end among them. The
 // longest has 20, 31, 2, 64 and 1 bytes.
+#[tactic(auto, unfolding(crate::specs::Line::line_of, says::specs::Words::bytes_of))]
 pub fn lay(told: Told, room: &mut [u8; 128]) -> usize
     ensures value { result ≡ length (line_of told) }
     ensures room_after { room.new ≡ laid (line_of told) room.old }
@@ -25,6 +26,7 @@ pub fn lay(told: Told, room: &mut [u8; 128]) -> usize
     put(b"\n", room, n)
 }
 
+#[tactic(auto, unfolding(crate::specs::Line::record_part, says::specs::Words::bytes_of))]
 fn put_record(told: Told, room: &mut [u8], from: usize) -> usize
     requires { from + 31 ≤ length room.old }
     ensures value { result ≡ from + length (record_part told) }
@@ -41,6 +43,7 @@ fn put_record(told: Told, room: &mut [u8], from: usize) -> usize
     }
 }
 
+#[tactic(auto, unfolding(crate::specs::Line::gap_of, says::specs::Words::bytes_of))]
 fn put_gap(number: u32, room: &mut [u8], from: usize) -> usize
     requires { from + 2 ≤ length room.old }
     ensures value { result ≡ from + length (gap_of number) }
@@ -81,5 +84,7 @@ fn put(text: &[u8], room: &mut [u8], from: usize) -> usize
     ensures value { result ≡ from + length text.now }
     ensures room_after { room.new ≡ put_at from text.now room.old }
 {
-    from + bytes::copy(text, &mut room[from..])
+    let n = text.len();
+    room[from..from + n].copy_from_slice(text);
+    from + n
 }

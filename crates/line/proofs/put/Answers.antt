@@ -1,0 +1,11 @@
+-- `line::put` meets its contract: the part of the room from the place on is what is copied there. Assumes nothing.
+use Rattle.std.proofs.Common.{◌≡◌, ◌+◌, ◌-◌, length, arith}
+use Rattle.line.specs.Put.{put_at}
+use Rattle.says.specs.Words.{laid}
+use Rattle.line.proofs.put.Goals as goal
+
+pub returns-clause-room_after : goal.returns-clause-room_after
+unfolding put_at laid
+returns-clause-room_after c =
+    let n : c.args.from + length c.args.text.now - c.args.from ≡ length c.args.text.now = omega arith in
+    rw (n, c.copy_from_slice.ensures.after)

@@ -1,0 +1,14 @@
+-- `line::put_decimal` meets its contract: what `io::decimal` spells is the decimal. Assumes nothing.
+use Rattle.std.proofs.Common.{◌∙◌}
+use Rattle.line.proofs.Decimals.{spelled}
+use Rattle.line.proofs.put_decimal.Goals as goal
+
+pub returns-clause-value : goal.returns-clause-value
+returns-clause-value c =
+    let same = c.decimal-n.ensures.digits ∙ spelled _ _ c.decimal-n.ensures.len in
+    rw same at c.put.ensures.value
+
+pub returns-clause-room_after : goal.returns-clause-room_after
+returns-clause-room_after c =
+    let same = c.decimal-n.ensures.digits ∙ spelled _ _ c.decimal-n.ensures.len in
+    rw same at c.put.ensures.room_after
