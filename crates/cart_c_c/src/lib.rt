@@ -79,5 +79,7 @@ pub extern "C" fn cart_search(
         let search = search_of 8 vertices.now polygons.now question.now budget before out.old in
         handed_of result after out.new steps.new value.new ≡ handed_by search value.old }
 {
-    cart_c::cart_search(vertices, polygons, question, budget, floats, words, tree, table, out, steps, value)
+    cart_c::cart_search(
+        vertices, polygons, question, budget, floats, words, tree, table, out, steps, value,
+    )
 }
