@@ -19,6 +19,7 @@ enum Asked {
     Unknown,
 }
 
+#[tactic(auto, unfolding(crate::specs::Walk::kind_number))]
 fn kind_number(kind: SuccessorType) -> u32
     ensures { result ≡ kind_number kind }
 {
@@ -29,6 +30,7 @@ fn kind_number(kind: SuccessorType) -> u32
     }
 }
 
+#[tactic(auto, unfolding(crate::specs::Walk::kind_asked_of))]
 fn kind_asked(number: u32) -> Asked
     ensures { result ≡ kind_asked_of number }
 {
@@ -45,6 +47,7 @@ fn kind_asked(number: u32) -> Asked
 }
 
 // Writes a part into words 5 * i to 5 * i + 4.
+#[tactic(auto, unfolding(crate::specs::Walk::part_words))]
 fn put_part(out: &mut [u32; 16], i: usize, part: Part)
     requires { i < 3 }
     ensures { out.new ≡ sets out.old (5 * i) (part_words part) }
@@ -58,6 +61,7 @@ fn put_part(out: &mut [u32; 16], i: usize, part: Part)
     out[at + 4] = kind_number(kind);
 }
 
+#[tactic(auto, unfolding(crate::specs::Walk::parts_written))]
 fn put_parts(out: &mut [u32; 16], parts: [Part; 3], count: usize)
     requires { count ≤ 3 }
     ensures { out.new ≡ parts_written parts count out.old }
@@ -72,7 +76,9 @@ fn put_parts(out: &mut [u32; 16], parts: [Part; 3], count: usize)
 // The number of intervals, 1 to 3, or 0 with out unchanged when kind is none of 0 LeftNonObservable, 1 Observable and 2
 // RightNonObservable. Words 5 * i to 5 * i + 3 of out are the bit patterns of interval i (start x, y, end x, y) and word
 // 5 * i + 4 its kind, for i below the answer; word 15 is the kind to go on with; every other word stays as it was.
-pub fn geometry_walk_edge(
+#[tactic(auto, unfolding(crate::specs::Walk::walk_number, crate::specs::Walk::walk_written))]
+#[unsafe(no_mangle)]
+pub extern "C" fn geometry_walk_edge(
     rx: u32,
     ry: u32,
     i0x: u32,
