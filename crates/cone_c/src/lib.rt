@@ -27,8 +27,7 @@ fn put_segment(out: &mut [u32; 4], segment: Segment)
 
 // 1 and the segment that is seen, or 0 and out is unchanged.
 #[tactic(auto, unfolding(crate::specs::Clip::clipped_number, crate::specs::Clip::clipped_written))]
-#[unsafe(no_mangle)]
-pub extern "C" fn geometry_clip_to_cone(
+pub fn geometry_clip_to_cone(
     rx: u32,
     ry: u32,
     c0x: u32,
@@ -60,8 +59,7 @@ pub extern "C" fn geometry_clip_to_cone(
     }
 }
 
-#[unsafe(no_mangle)]
-pub extern "C" fn geometry_lands_on(cx: u32, cy: u32, vx: u32, vy: u32, rx: u32, ry: u32) -> u32
+pub fn geometry_lands_on(cx: u32, cy: u32, vx: u32, vy: u32, rx: u32, ry: u32) -> u32
     ensures { result ≡ truth_number (lands_on_of (from_bits_of cx cy) (from_bits_of vx vy) (from_bits_of rx ry)) }
 {
     let computed = Point::from_bits(cx, cy);
