@@ -13,8 +13,7 @@ use plan::PLAN;
 
 // Document 01's number: 0 where the floor is accepted, else 2 to 6.
 #[tactic(auto, unfolding(crate::specs::Numbers::look_number))]
-#[unsafe(no_mangle)]
-pub extern "C" fn floor_look(vertices: &[u8], polygons: &[u8]) -> u32
+pub fn floor_look(vertices: &[u8], polygons: &[u8]) -> u32
     ensures { result ≡ look_number (floor_look_of 8 vertices.now polygons.now) }
 {
     let mut plan = [0u32; PLAN];
@@ -40,8 +39,7 @@ fn mark(plan: &[u32; PLAN], v: usize) -> u32
 
 // The same, with the look at the floor before it: document 01's number from 2 to 6 where it is refused.
 #[tactic(auto, unfolding(crate::specs::Numbers::turn_number))]
-#[unsafe(no_mangle)]
-pub extern "C" fn floor_turn(vertices: &[u8], polygons: &[u8], v: usize) -> u32
+pub fn floor_turn(vertices: &[u8], polygons: &[u8], v: usize) -> u32
     ensures { result ≡ turn_number (floor_look_of 8 vertices.now polygons.now)
         (mark_number (marks_of (floor_of 8 vertices.now polygons.now)) v) }
 {
