@@ -77,8 +77,7 @@ fn put_parts(out: &mut [u32; 16], parts: [Part; 3], count: usize)
 // RightNonObservable. Words 5 * i to 5 * i + 3 of out are the bit patterns of interval i (start x, y, end x, y) and word
 // 5 * i + 4 its kind, for i below the answer; word 15 is the kind to go on with; every other word stays as it was.
 #[tactic(auto, unfolding(crate::specs::Walk::walk_number, crate::specs::Walk::walk_written))]
-#[unsafe(no_mangle)]
-pub extern "C" fn geometry_walk_edge(
+pub fn geometry_walk_edge(
     rx: u32,
     ry: u32,
     i0x: u32,
