@@ -45,6 +45,7 @@ fn judge_end(trip: Trip, node: Node, route: &[u8], i: usize) -> Judged
 }
 
 // 20, then the records in order: the route of this trip.
+#[tactic(auto, unfolding(steps::specs::World::world_in))]
 pub fn judge_route(
     vertices: &[u8],
     polygons: &[u8],
@@ -109,6 +110,7 @@ pub fn judge(vertices: &[u8], polygons: &[u8], question: &[u8], route: &[u8]) ->
 
 impl Verdict {
     // The number in document 01's table, and the record at fault where there is one.
+    #[tactic(auto, unfolding(crate::specs::Verdict::verdict_told))]
     pub fn told(self) -> Told
         ensures { result ≡ verdict_told self }
     {
