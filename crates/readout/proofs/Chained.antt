@@ -14,11 +14,11 @@ use Rattle.route.specs.declared.Step.{Step}
 use Rattle.route.specs.declared.Sought.TheVariants.{Found}
 use Rattle.route.specs.declared.Judged.TheVariants.{Accepted, NotStep}
 use Rattle.route.specs.World.{World}
-use Rattle.route.specs.Record.{record_at, seed_bytes}
+use Rattle.route.specs.Record.{record_at}
 use Rattle.route.specs.Judge.{length_right, same_bytes, find_step, judge_of}
 use Rattle.route.proofs.Turns.{begins_length, begins_wrong}
 use Rattle.steps.specs.declared.Node.{Node}
-use Rattle.steps.specs.Steps.{steps_from, enter}
+use Rattle.steps.specs.Steps.{enter}
 use Rattle.readout.specs.Points.{chain_from, last_points, points_along}
 use Rattle.readout.specs.Readout.{floats_of, put_point, put_root}
 use Rattle.readout.proofs.Placed.{put_more, put_long}

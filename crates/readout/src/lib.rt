@@ -37,6 +37,7 @@ pub enum Readout {
 }
 
 // Point k, x then y.
+#[tactic(auto, unfolding(crate::specs::Readout::put_point))]
 fn put_point(points: &mut [f32], k: usize, point: Point)
     requires { k * 2 + 2 ≤ length points.old }
     ensures { points.new ≡ put_point points.old k point }
@@ -46,6 +47,7 @@ fn put_point(points: &mut [f32], k: usize, point: Point)
 }
 
 // The new root, if it is another one.
+#[tactic(auto, unfolding(crate::specs::Readout::put_root))]
 fn put_root(points: &mut [f32], node: Node, next: Node)
     requires { same_of next.root node.root ≡ false → node.points * 2 + 2 ≤ length points.old }
     ensures { points.new ≡ put_root points.old node next }
@@ -81,6 +83,7 @@ fn put_last(points: &mut [f32], node: Node, goal: Point)
 
 // The points of a route that was accepted, for which there is room. The judge has found every middle record to be a step, so the step is
 // read off it.
+#[tactic(auto, using(route::proofs::Turns::length_gives))]
 fn list_points(vertices: &[u8], trip: Trip, route: &[u8], points: &mut [f32])
     requires readable { Readable (vertices_of vertices.now) trip route.now }
     requires route_in_bounds { length (points_read (vertices_of vertices.now) trip route.now) * 2 ≤ length points.old }
@@ -102,6 +105,7 @@ fn list_points(vertices: &[u8], trip: Trip, route: &[u8], points: &mut [f32])
 
 // Lists the points of a route that was accepted, unless the slice is too short. Its end record says how many they are: the judge has
 // compared it.
+#[tactic(auto, unfolding(route::specs::Record::records))]
 fn list_route(vertices: &[u8], trip: Trip, route: &[u8], points: &mut [f32]) -> Readout
     requires { Readable (vertices_of vertices.now) trip route.now }
     ensures result_value { let route-points = points_read (vertices_of vertices.now) trip route.now in
@@ -170,6 +174,7 @@ pub fn read_out(
 
 impl Readout {
     // The number in document 01's table, and the record at fault or how many points are listed.
+    #[tactic(auto, unfolding(crate::specs::Readout::readout_told))]
     pub fn told(self) -> Told
         ensures { result ≡ readout_told self }
     {
