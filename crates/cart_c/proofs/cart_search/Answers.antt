@@ -1,8 +1,5 @@
 -- `cart_c::cart_search` meets its contract: it is made of what its callees ensure. Assumes nothing.
-use Prim.Native.Nat.{ℕ}
-use mathlib.Core.Path.{◌≡◌, ap}
-use mathlib.Core.List.{List}
-use borrow.Author.Rules.{rules}
+use Rattle.std.proofs.Common.{ℕ, ◌≡◌, ap, List}
 use Rattle.told.specs.declared.Told.{Told}
 use Rattle.told.specs.Told.{number_of, values_of}
 use Rattle.writing.specs.declared.Answer.{Answer}
@@ -10,8 +7,7 @@ use Rattle.writing.specs.Answers.{answer_told, answer_steps}
 use Rattle.search.specs.Whole.{Lent, Searched, searched_of}
 use Rattle.cart_c.specs.Handed.{handed_of, handed_by}
 use Rattle.cart_c.specs.Written.{value_written}
-use Rattle.cart_c.proofs.cart_search.Statement.{statement}
-use Rattle.cart_c.proofs.cart_search.Tie as tie
+use Rattle.cart_c.proofs.cart_search.Goals as goal
 
 module _ (s : Searched) (answer : Answer) (told : Told) (lent : Lent) (out : List ℕ) (number steps value before : ℕ) where
   -- what is told of the answer is what is told of the search
@@ -25,25 +21,5 @@ module _ (s : Searched) (answer : Answer) (told : Told) (lent : Lent) (out : Lis
   unfolding handed_by
   handed searched k t v n = rw (n, k, v, t) (ap (λ x. handed_by x before) searched)
 
-returns : tie.Need-returns
-returns c =
-    let at_told = c.before.before.before in
-    let at-steps = at_told.before in
-    let at-search = at-steps.before.before.before.before.before.before.before.before.before.before.before in
-    handed _ _ _ _ _ _ _ _ _ at-search.search.ensures at-steps.steps.ensures at_told.told.ensures c.before.put.ensures c.number.ensures
-
-pub cart_search_spec : {M : Type 1} → statement M
-cart_search_spec =
-    tie.close
-    (tie.spec
-    (λ c κs. search rules)
-    (λ c κs. search rules)
-    (λ c κs. search rules)
-    (λ c κs. search rules)
-    (λ c κs. search rules)
-    (λ c. search rules)
-    (λ c. search rules)
-    (λ c. search rules)
-    (λ c. search rules)
-    (λ c. search rules)
-    returns)
+pub returns : goal.returns
+returns c = handed _ _ _ _ _ _ _ _ _ c.search-answer.ensures c.steps.ensures c.told-told.ensures c.put.ensures c.number.ensures
