@@ -30,8 +30,7 @@ fn put(place: &mut usize, told: Told)
 
 // Document 01's number: 0 where the route is accepted, else 2 to 9 or 20 to 23, and the record of 4, 5, 6, 21, 22 and 23.
 #[tactic(auto, unfolding(crate::specs::Written::value_written))]
-#[unsafe(no_mangle)]
-pub extern "C" fn cart_judge(
+pub fn cart_judge(
     vertices: &[u8],
     polygons: &[u8],
     question: &[u8],
@@ -49,8 +48,7 @@ pub extern "C" fn cart_judge(
 
 // Judges, then lists the points of an accepted route, x and y of each. Document 01's number: as cart_judge, or 13 where the
 // slice has no room for them. Other than 0, the slice stays as it was.
-#[unsafe(no_mangle)]
-pub extern "C" fn cart_read_out(
+pub fn cart_read_out(
     vertices: &[u8],
     polygons: &[u8],
     question: &[u8],
@@ -73,8 +71,7 @@ pub extern "C" fn cart_read_out(
 }
 
 // The words for a number at the front of the room, and how many bytes they take.
-#[unsafe(no_mangle)]
-pub extern "C" fn cart_words(number: u32, room: &mut [u8; 64]) -> usize
+pub fn cart_words(number: u32, room: &mut [u8; 64]) -> usize
     ensures value { result ≡ length (words_of number) }
     ensures room_after { room.new ≡ laid (words_of number) room.old }
 {
@@ -83,8 +80,7 @@ pub extern "C" fn cart_words(number: u32, room: &mut [u8; 64]) -> usize
 
 // The search. Document 01's number: 0 where a route was found, else 1 to 14; the counted steps; and on 0 the bytes written, with
 // 4, 5 and 6 the record at fault.
-#[unsafe(no_mangle)]
-pub extern "C" fn cart_search(
+pub fn cart_search(
     vertices: &[u8],
     polygons: &[u8],
     question: &[u8],
