@@ -1,17 +1,12 @@
 -- `stand::is_on` meets its contract: the floor has as many records as its lists hold. Assumes nothing.
-use Prim.Native.Nat.{ℕ, ◌<◌, ◌≤◌}
-use mathlib.Core.Path.{◌≡◌}
-use mathlib.Core.Bool.{Bool, false}
-use mathlib.Core.List.{List}
-use borrow.Author.Rules.{rules}
+use Rattle.std.proofs.Common.{ℕ, ◌<◌, ◌≤◌, ◌≡◌, Bool, false, List, arith}
 use borrow.Author.Tests.{le-ltb, lt-ltb}
 use Rattle.plan.specs.Plan.{vertex_count_in, polygon_count_in}
 use Rattle.stored.specs.Stored.{PolygonsPlanned, polygons_in, record_in}
 use Rattle.stored.proofs.Records.{polygons_counted, polygon_read}
 use Rattle.steps.specs.declared.Node.{Node}
 use Rattle.steps_c.specs.Ask.{is_entered, is_on}
-use Rattle.steps_c.proofs.stand.is_on.Statement.{statement}
-use Rattle.steps_c.proofs.stand.is_on.Tie as tie
+use Rattle.steps_c.proofs.stand.is_on.Goals as goal
 
 module _ (plan ps : List ℕ) (node : Node) (planned : PolygonsPlanned plan ps) where
   no_polygon : polygon_count_in plan ≤ node.polygon → false ≡ is_on (vertex_count_in plan) (polygons_in plan ps) node
@@ -34,20 +29,14 @@ module _ (plan ps : List ℕ) (node : Node) (planned : PolygonsPlanned plan ps) 
     all_listed first second e =
         rw (polygons_counted planned, lt-ltb _ _ listed, lt-ltb _ _ first, lt-ltb _ _ second, polygon_read planned node.polygon listed) e
 
-returns : tie.Need-returns
-returns c = all_listed _ _ _ (search rules) (search rules) (search rules) (search rules) c.is-entered.ensures
+pub returns-then-node-count-2 : goal.returns-then-node-count-2
+returns-then-node-count-2 c = all_listed _ _ _ c.requires (omega arith) (omega arith) (omega arith) c.is_entered.ensures
 
-returns-2 : tie.Need-returns-2
-returns-2 c = no_second _ _ _ (search rules) (search rules) (search rules) (search rules) (le-ltb _ _ c.if3.false)
+pub returns-else-node-count-2 : goal.returns-else-node-count-2
+returns-else-node-count-2 c = no_second _ _ _ c.requires (omega arith) (omega arith) (omega arith) (le-ltb _ _ c.if-node-count-2.false)
 
-returns-3 : tie.Need-returns-3
-returns-3 c = no_first _ _ _ (search rules) (search rules) (search rules) (le-ltb _ _ c.if2.false)
+pub returns-else-node-count : goal.returns-else-node-count
+returns-else-node-count c = no_first _ _ _ c.requires (omega arith) (omega arith) (le-ltb _ _ c.if-node-count.false)
 
-returns-4 : tie.Need-returns-4
-returns-4 c = no_polygon _ _ _ (search rules) (search rules)
-
-pub is_on_spec : {M : Type 1} → statement M
-is_on_spec =
-    tie.close
-    (tie.spec (λ c κs. search rules) (λ c. search rules) (λ c κs. search rules) (λ c. search rules) (λ c. search rules) (λ c κs. search rules)
-    returns returns-2 returns-3 returns-4)
+pub returns : goal.returns
+returns c = no_polygon _ _ _ c.requires (omega arith)
