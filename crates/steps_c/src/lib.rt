@@ -89,8 +89,7 @@ fn ask(vertices: &[u8], polygons: &[u8], goal: u32, node: Node, k: usize) -> Ans
 // in out. Otherwise out is unchanged: 0 where the node has no such step, document 01's number from 2 to 6 where the floor is
 // refused, and 100, which is none of document 01's, where the node does not stand on the floor.
 #[tactic(auto, unfolding(crate::specs::Ask::answer_number, crate::specs::Ask::answer_written, records::specs::Records::step_record))]
-#[unsafe(no_mangle)]
-pub extern "C" fn steps_step(
+pub fn steps_step(
     vertices: &[u8],
     polygons: &[u8],
     goal: u32,
