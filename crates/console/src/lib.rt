@@ -2,7 +2,7 @@
 // What the programs share: room for each file, a file or standard input read whole into it, a verdict, or a search with no
 // route, said in one line, and standard output that says when it fails.
 
-ghost use Rattle.std.specs.Prelude.{◌≡◌, ◌≤◌, min, length, replicate, IfOk, IsTrue};
+ghost use Rattle.std.specs.Prelude.{◌≡◌, ◌≤◌, min, length, replicate, IfOk, OnErr, IsTrue};
 ghost use Rattle.std.specs.Io.KnownBytes.{Consumes};
 ghost use Rattle.io.specs.Counts.{IsPrefixLen};
 ghost use Rattle.says.specs.Words.{words_of};
@@ -99,9 +99,11 @@ fn read_full<R: Read>(from: &mut R, room: &mut [u8]) -> Result<usize>
     Ok(done)
 }
 
-// Reads the next n bytes to the front of the room, or as many as it has room for, and answers how many were wanted.
+// Reads the next n bytes to the front of the room, or as many as it has room for, and answers how many were wanted. A read that
+// fails is answered as its error, and leaves the room with its length and any bytes.
 pub fn read_part<R: Read>(from: &mut R, n: usize, room: &mut [u8]) -> Result<usize>
-    ensures { IfOk result (λ wanted. IsPrefixLen wanted room.new) }
+    ensures ok { IfOk result (λ wanted. IsPrefixLen wanted room.new) }
+    ensures err { OnErr result (length room.new ≡ length room.old) }
 {
     let n = at_most(n, room.len());
     read_full(from, &mut room[..n])?;
@@ -110,8 +112,9 @@ pub fn read_part<R: Read>(from: &mut R, n: usize, room: &mut [u8]) -> Result<usi
 
 // Reads as many bytes as there is room for: false where fewer are left.
 pub fn fills<R: Read>(from: &mut R, room: &mut [u8]) -> Result<bool>
-    ensures { IfOk result (λ filled. IsTrue filled
+    ensures ok { IfOk result (λ filled. IsTrue filled
         → Consumes (R.remaining from.old) (R.remaining from.new) room.new) }
+    ensures err { OnErr result (length room.new ≡ length room.old) }
 {
     match from.read_exact(room) {
         Ok(()) => Ok(true),
