@@ -52,7 +52,7 @@ pub fn read_file<R: Files + Eprint>(rt: &R, path: &str, room: &mut [u8]) -> usiz
     match File::open(rt, path) {
         Ok(mut file) => read_whole(rt, &mut file, path, room),
         Err(e) => {
-            fail(rt, path, &e);
+            let _ = fail(rt, path, e);
             0
         }
     }
@@ -78,7 +78,7 @@ fn read_whole<R: Read>(rt: &impl Eprint, from: &mut R, name: &str, room: &mut [u
             n
         }
         Err(e) => {
-            fail(rt, name, &e);
+            let _ = fail(rt, name, e);
             0
         }
     }
@@ -152,13 +152,16 @@ impl fmt::Display for Ascii<'_> {
     }
 }
 
-// A line on standard error says what failed and why, as "floor.vtx: No such file or directory".
-pub fn fail(rt: &impl Eprint, what: &str, error: &Error) {
+// A line on standard error says what failed and why, as "floor.vtx: No such file or directory". The error is handed back.
+pub fn fail(rt: &impl Eprint, what: &str, error: Error) -> Error
+    ensures { result ≡ error }
+{
     let mut room = [0u8; 256];
     let mut rest = &mut room[..];
     let _ = write!(rest, "{error}");
     let why = Ascii(reason(&room));
     let _ = eprintln!(rt; "{what}: {why}");
+    error
 }
 
 // An error's words without the system's number, which stands behind them, and without the zeros of what is left of the room.
@@ -182,7 +185,7 @@ pub fn write_out<R: Print + Eprint>(rt: &R, bytes: &[u8]) -> usize
     let Err(e) = rt.write_all(bytes) else {
         return bytes.len();
     };
-    fail(rt, "standard output could not be written", &e);
+    let _ = fail(rt, "standard output could not be written", e);
     bytes.len()
 }
 
