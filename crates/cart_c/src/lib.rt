@@ -17,6 +17,7 @@ use told::Told;
 
 // Writes what comes with a number: the record at fault, how many points are listed, or how long the route is. Where nothing comes,
 // what stood there stays.
+#[tactic(auto, unfolding(crate::specs::Written::value_written, crate::specs::Written::record_written, crate::specs::Written::at_of, told::specs::Told::values_of))]
 fn put(place: &mut usize, told: Told)
     ensures { place.new ≡ value_written (values_of told) place.old }
 {
@@ -28,6 +29,7 @@ fn put(place: &mut usize, told: Told)
 }
 
 // Document 01's number: 0 where the route is accepted, else 2 to 9 or 20 to 23, and the record of 4, 5, 6, 21, 22 and 23.
+#[tactic(auto, unfolding(crate::specs::Written::value_written))]
 pub fn cart_judge(
     vertices: &[u8],
     polygons: &[u8],

@@ -2,91 +2,127 @@
 // What the programs share: room for each file, a file or standard input read whole into it, a verdict, or a search with no
 // route, said in one line, and standard output that says when it fails.
 
-ghost use Rattle.std.specs.Prelude.{◌≡◌, ◌≤◌, min, length, replicate};
+ghost use Rattle.std.specs.Prelude.{◌≡◌, ◌≤◌, min, length, replicate, IfOk, IsTrue};
+ghost use Rattle.std.specs.Io.KnownBytes.{Consumes};
 ghost use Rattle.io.specs.Counts.{IsPrefixLen};
 ghost use Rattle.says.specs.Words.{words_of};
 ghost use Rattle.line.specs.Line.{line_of};
 
-use libc::{STDERR_FILENO, STDIN_FILENO, STDOUT_FILENO};
+use std::fmt;
+use std::fs::File;
+use std::io::{Error, ErrorKind, Read, Result, Write};
+use std::rt::Files;
 use told::Told;
 
 // Room for each file: a byte more than the longest that is allowed, so that a file that is too long has a wrong length here
 // too. The length is said beside the zeros, since lending an array as a slice asks for it.
 pub fn room_for_vertices() -> [u8; 8193]
     ensures value { result ≡ replicate 8193 0 }
-    ensures value_2 { 8193 ≡ length result }
+    ensures len { 8193 ≡ length result }
 {
     [0; 8193]
 }
 
 pub fn room_for_polygons() -> [u8; 32769]
     ensures value { result ≡ replicate 32769 0 }
-    ensures value_2 { 32769 ≡ length result }
+    ensures len { 32769 ≡ length result }
 {
     [0; 32769]
 }
 
 pub fn room_for_question() -> [u8; 17]
     ensures value { result ≡ replicate 17 0 }
-    ensures value_2 { 17 ≡ length result }
+    ensures len { 17 ≡ length result }
 {
     [0; 17]
 }
 
 pub fn room_for_route() -> [u8; 131105]
     ensures value { result ≡ replicate 131105 0 }
-    ensures value_2 { 131105 ≡ length result }
+    ensures len { 131105 ≡ length result }
 {
     [0; 131105]
 }
 
 // Reads the file to the front of the room and answers how many bytes it has: none where it cannot be opened or read. A file
 // that is as long as the room, or longer, fills it: lend a byte more than the longest file may have, and its length is wrong.
-pub fn read_file(path: &[u8], room: &mut [u8]) -> usize
+pub fn read_file<R: Files + Eprint>(rt: &R, path: &str, room: &mut [u8]) -> usize
     ensures { IsPrefixLen result room.new }
 {
-    let fd = os::open_read(path);
-    if fd < 0 {
-        os::fail(path);
-        return 0;
+    match File::open(rt, path) {
+        Ok(mut file) => read_whole(rt, &mut file, path, room),
+        Err(e) => {
+            fail(rt, path, &e);
+            0
+        }
     }
-    let n = read_whole(fd, path, room);
-    libc::close(fd);
-    n
 }
 
 // The same of standard input.
-pub fn read_input(room: &mut [u8]) -> usize
+pub fn read_input<R: Input + Eprint>(rt: &R, room: &mut [u8]) -> usize
     ensures { IsPrefixLen result room.new }
 {
-    read_whole(STDIN_FILENO, b"standard input", room)
+    let mut input = rt.reader();
+    read_whole(rt, &mut input, "standard input", room)
 }
 
-// A short count is the end of the file only if a further read says so. A read that failed may have left the front of a file,
-// which is another file: it is answered as none.
-fn read_whole(fd: i32, name: &[u8], room: &mut [u8]) -> usize
+// A read that failed may have left the front of a file, which is another file: it is answered as none.
+fn read_whole<R: Read>(rt: &impl Eprint, from: &mut R, name: &str, room: &mut [u8]) -> usize
     ensures { IsPrefixLen result room.new }
 {
-    let n = io::read_full(fd, room);
-    if n == room.len() {
-        io::write_all(STDERR_FILENO, name);
-        io::write_all(STDERR_FILENO, b" is too long\n");
-        return n;
+    match read_full(from, room) {
+        Ok(n) => {
+            if n == room.len() {
+                let _ = eprintln!(rt; "{name} is too long");
+            }
+            n
+        }
+        Err(e) => {
+            fail(rt, name, &e);
+            0
+        }
     }
-    if !is_over(fd) {
-        os::fail(name);
-        return 0;
+}
+
+// Reads until the room is full or a read says that nothing is left, and answers how many bytes there are.
+fn read_full<R: Read>(from: &mut R, room: &mut [u8]) -> Result<usize>
+    ensures { IfOk result (λ n. IsPrefixLen n room.new) }
+{
+    let mut done = 0;
+    while done < room.len() {
+        let n = from.read(&mut room[done..])?;
+        if n == 0 {
+            break;
+        }
+        done += n;
     }
-    n
+    Ok(done)
 }
 
 // Reads the next n bytes to the front of the room, or as many as it has room for, and answers how many were wanted.
-pub fn read_part(fd: i32, n: usize, room: &mut [u8]) -> usize
-    ensures { IsPrefixLen result room.new }
+pub fn read_part<R: Read>(from: &mut R, n: usize, room: &mut [u8]) -> Result<usize>
+    ensures { IfOk result (λ wanted. IsPrefixLen wanted room.new) }
 {
     let n = at_most(n, room.len());
-    io::read_full(fd, &mut room[..n]);
-    n
+    read_full(from, &mut room[..n])?;
+    Ok(n)
+}
+
+// Reads as many bytes as there is room for: false where fewer are left.
+pub fn fills<R: Read>(from: &mut R, room: &mut [u8]) -> Result<bool>
+    ensures { IfOk result (λ filled. IsTrue filled
+        → Consumes (R.remaining from.old) (R.remaining from.new) room.new) }
+{
+    match from.read_exact(room) {
+        Ok(()) => Ok(true),
+        Err(e) => {
+            if e.kind() == ErrorKind::UnexpectedEof {
+                Ok(false)
+            } else {
+                Err(e)
+            }
+        }
+    }
 }
 
 // A number, or the most that is allowed if it is more.
@@ -100,51 +136,77 @@ pub fn at_most(n: usize, most: usize) -> usize
     most
 }
 
-// Whether nothing is left to read.
-fn is_over(fd: i32) -> bool {
-    let mut byte = [0u8; 1];
-    libc::read(fd, &mut byte) == 0
+// Bytes of ASCII, as text to print.
+#[derive(Clone, Copy)]
+struct Ascii<'a>(&'a [u8]);
+
+impl fmt::Display for Ascii<'_> {
+    fn fmt<W: fmt::Write>(&self, f: &mut fmt::Formatter<W>) -> fmt::Result {
+        for b in self.0 {
+            f.write_char(char::from(*b))?;
+        }
+        Ok(())
+    }
+}
+
+// A line on standard error says what failed and why, as "floor.vtx: No such file or directory".
+pub fn fail(rt: &impl Eprint, what: &str, error: &Error) {
+    let mut room = [0u8; 256];
+    let mut rest = &mut room[..];
+    let _ = write!(rest, "{error}");
+    let why = Ascii(reason(&room));
+    let _ = eprintln!(rt; "{what}: {why}");
+}
+
+// An error's words without the system's number, which stands behind them, and without the zeros of what is left of the room.
+fn reason(text: &[u8]) -> &[u8] {
+    for (i, b) in text.iter().enumerate() {
+        if *b == 0 || text[i..].starts_with(b" (os error ") {
+            return &text[..i];
+        }
+    }
+    text
 }
 
 // What is said is a definition, and each function answers how many bytes it has. That they reach the stream can be stated of no
 // function: a stream may be closed or full.
 
 // Writes the bytes to standard output and answers how many they are. If not all go through, a line on standard error says so
-// and why, since a program in Rattle has no exit status.
-pub fn write_out(bytes: &[u8]) -> usize
+// and why: the program's status is given by what it says there (night/start).
+pub fn write_out<R: Print + Eprint>(rt: &R, bytes: &[u8]) -> usize
     ensures { result ≡ length bytes.now }
 {
-    if io::write_all(STDOUT_FILENO, bytes) {
+    let Err(e) = rt.write_all(bytes) else {
         return bytes.len();
-    }
-    os::fail(b"standard output could not be written");
+    };
+    fail(rt, "standard output could not be written", &e);
     bytes.len()
 }
 
 // The line of what is told on standard output, as "22 at record 3: not a permitted step".
-pub fn say(told: Told) -> usize
+pub fn say<R: Print + Eprint>(rt: &R, told: Told) -> usize
     ensures { result ≡ length (line_of told) }
 {
     let mut room = [0u8; 128];
     let n = line::lay(told, &mut room);
-    write_out(&room[..n])
+    write_out(rt, &room[..n])
 }
 
 // The same line on standard error.
-pub fn complain(told: Told) -> usize
+pub fn complain(rt: &impl Eprint, told: Told) -> usize
     ensures { result ≡ length (line_of told) }
 {
     let mut room = [0u8; 128];
     let n = line::lay(told, &mut room);
-    io::write_all(STDERR_FILENO, &room[..n]);
+    let _ = rt.eprint(Ascii(&room[..n]));
     n
 }
 
 // The words for a number on standard output, with no line end.
-pub fn say_words(number: u32) -> usize
+pub fn say_words<R: Print + Eprint>(rt: &R, number: u32) -> usize
     ensures { result ≡ length (words_of number) }
 {
     let mut text = [0u8; 64];
     let n = says::words(number, &mut text);
-    write_out(&text[..n])
+    write_out(rt, &text[..n])
 }

@@ -4,18 +4,29 @@
 // and plain words, as "0 accepted" or "22 at record 3: not a permitted step". Where the line does not go through, standard
 // error says so.
 
-fn main() {
+use std::rt::Files;
+
+fn main(rt: HostRuntime) {
     let mut vertices = console::room_for_vertices();
     let mut polygons = console::room_for_polygons();
     let mut question = console::room_for_question();
     let mut route = console::room_for_route();
-    judge_files(&mut vertices, &mut polygons, &mut question, &mut route);
+    judge_files(&rt, &mut vertices, &mut polygons, &mut question, &mut route);
 }
 
-fn judge_files(vertices: &mut [u8], polygons: &mut [u8], question: &mut [u8], route: &mut [u8]) {
-    let v = console::read_file(b"floor.vtx", vertices);
-    let p = console::read_file(b"floor.ply", polygons);
-    let q = console::read_file(b"question", question);
-    let r = console::read_input(route);
-    console::say(judge::judge(&vertices[..v], &polygons[..p], &question[..q], &route[..r]).told());
+fn judge_files<R: Files + Input + Print + Eprint>(
+    rt: &R,
+    vertices: &mut [u8],
+    polygons: &mut [u8],
+    question: &mut [u8],
+    route: &mut [u8],
+) {
+    let v = console::read_file(rt, "floor.vtx", vertices);
+    let p = console::read_file(rt, "floor.ply", polygons);
+    let q = console::read_file(rt, "question", question);
+    let r = console::read_input(rt, route);
+    console::say(
+        rt,
+        judge::judge(&vertices[..v], &polygons[..p], &question[..q], &route[..r]).told(),
+    );
 }

@@ -30,6 +30,7 @@ use steps::{Node, Permitted};
 use view::View;
 use walk::{Round, Successor};
 
+#[tactic(auto, using(crate::proofs::Keeping::differs))]
 fn is_nan(x: f32) -> bool
     ensures { result ≡ is_nan x }
 {
@@ -38,6 +39,7 @@ fn is_nan(x: f32) -> bool
 
 // The number of the record that a root has, or is the next to have. One that is the old root by == has the old root's; only
 // another one is looked for.
+#[tactic(auto, using(crate::proofs::Keeping::keeps_number))]
 fn number_for(floats: &[f32], records: usize, old: Point, number: usize, root: Point) -> usize
     requires { (records * 11 ≤ length floats.now) × (record_for floats.now records old ≡ number) }
     ensures { result ≡ record_for floats.now records root }
@@ -127,6 +129,7 @@ fn take(
 }
 
 // Makes the node that a step leads to. NaN in its distance or its heuristic makes nothing.
+#[tactic(auto, using(crate::proofs::Keeping::makes_none, crate::proofs::Keeping::makes_nothing, crate::proofs::Keeping::makes_full, crate::proofs::Keeping::makes_one))]
 fn make(
     vertices: &[u8],
     task: Task,

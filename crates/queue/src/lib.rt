@@ -83,7 +83,7 @@ fn repair(tree: &mut [u32], fs: &[f32], stride: usize, at: usize, n: usize, k: u
 }
 
 // Repairs word k, then the one above it, up to word 1. It ends at a word that stays what it was: every word above that is right as it is.
-#[tactic(auto, using(crate::proofs::Ways::climb_begins, crate::proofs::Ways::climb_long, crate::proofs::Ways::climb_stays, crate::proofs::Ways::climb_on, crate::proofs::Ways::climb_over))]
+#[tactic(auto, using(crate::proofs::Ways::climb_begins, crate::proofs::Ways::climb_long, crate::proofs::Ways::climb_on, crate::proofs::Ways::climb_over))]
 fn climb(tree: &mut [u32], fs: &[f32], stride: usize, at: usize, n: usize, from: usize)
     requires rows { Rows n stride at fs.now }
     requires n_in_bounds { (2 * n ≤ length tree.old) × (from < n) }

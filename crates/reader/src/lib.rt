@@ -1,7 +1,7 @@
 #![tactic(auto)]
 // A reader of a route file: the caller's route bytes and the number of a record in them. It walks them one record at a time.
-// A function over a struct that holds a slice is proved by hand. So each only takes the reader apart and calls a function on
-// the bytes and the number, and whoever has plain bytes calls `begins_with`, which asks for no such proof.
+// Each function only takes the reader apart and calls one on the bytes and the number; whoever has plain bytes calls
+// `begins_with`.
 
 ghost use Rattle.std.specs.Prelude.{◌≡◌};
 ghost use Rattle.reader.specs.Reading.{is_record, records_from, number_after, first_of, next_of};

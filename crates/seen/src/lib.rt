@@ -107,7 +107,7 @@ fn is_used(table: &[u32], j: usize) -> bool
 }
 
 // Whether all ten words of an entry are those of the key.
-#[tactic(auto, unfolding(crate::specs::Table::entry_word, crate::specs::Table::holds))]
+#[tactic(auto, unfolding(crate::specs::Table::entry_word))]
 fn holds(table: &[u32], j: usize, key: &[u32; 10]) -> bool
     requires { (j + 1) * words_per_entry ≤ length table.now }
     ensures { result ≡ holds table.now key.now j }
@@ -136,7 +136,6 @@ fn next(entries: usize, j: usize) -> usize
 }
 
 // Looks a key up: from the slot that its sum gives to the entry that holds it, or to an unused one, or all the way round.
-#[tactic(auto, unfolding(crate::specs::Table::first_slot))]
 fn look_up(table: &[u32], key: &[u32; 10]) -> Spot
     ensures { let held = table.now in result ≡ found_in held key.now (entries_in held) }
 {

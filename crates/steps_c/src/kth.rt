@@ -23,6 +23,7 @@ enum Counted {
 }
 
 // Step k of those that begin with this one, if it is one.
+#[tactic(auto, unfolding(crate::specs::Kth::counted_of))]
 fn count_off(permitted: Permitted, k: usize) -> Counted
     ensures { result ≡ counted_of permitted k }
 {

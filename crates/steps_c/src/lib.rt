@@ -52,6 +52,7 @@ fn node_of(words: &[u32; 10]) -> Node
 }
 
 // Step k out of a node, on a floor that was accepted.
+#[tactic(auto, unfolding(crate::specs::Ask::answer_on))]
 fn answer_on(
     vertices: &[u8],
     polygons: &[u8],
@@ -73,6 +74,7 @@ fn answer_on(
     }
 }
 
+#[tactic(auto, unfolding(crate::specs::Ask::answer_of))]
 fn ask(vertices: &[u8], polygons: &[u8], goal: u32, node: Node, k: usize) -> Answer
     ensures { result ≡ answer_of vertices.now polygons.now goal node k }
 {
@@ -86,6 +88,7 @@ fn ask(vertices: &[u8], polygons: &[u8], goal: u32, node: Node, k: usize) -> Ans
 // The step with number k, counted from 0, out of a node, where the goal is in this polygon: 1, and its record's eight words
 // in out. Otherwise out is unchanged: 0 where the node has no such step, document 01's number from 2 to 6 where the floor is
 // refused, and 100, which is none of document 01's, where the node does not stand on the floor.
+#[tactic(auto, unfolding(crate::specs::Ask::answer_number, crate::specs::Ask::answer_written, records::specs::Records::step_record))]
 pub fn steps_step(
     vertices: &[u8],
     polygons: &[u8],

@@ -9,6 +9,7 @@ use plan::PLAN;
 use steps::Node;
 
 // Whether the edge that the node was entered by is one of the polygon's. The seed was entered by none.
+#[tactic(auto, unfolding(crate::specs::Ask::is_entered))]
 fn is_entered(polygons: &[u8], plan: &[u32; PLAN], node: Node) -> bool
     requires { Lies plan.now polygons.now node.polygon }
     ensures { result ≡ is_entered (record_in plan.now polygons.now node.polygon) node }

@@ -130,6 +130,7 @@ pub fn tell(trip: Trip, ended: Ended, floats: &[f32], words: &[u32], out: &mut [
 
 impl Answer {
     // The number in document 01's table, and the bytes written or the record at fault.
+    #[tactic(auto, unfolding(crate::specs::Answers::answer_told))]
     pub fn told(self) -> Told
         ensures { result ≡ answer_told self }
     {
@@ -146,6 +147,7 @@ impl Answer {
     }
 
     // The counted steps, 0 for 2 to 10.
+    #[tactic(auto, unfolding(crate::specs::Answers::answer_steps))]
     pub fn steps(self) -> usize
         ensures { result ≡ answer_steps self }
     {
