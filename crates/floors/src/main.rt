@@ -6,7 +6,9 @@
 ghost use Rattle.std.specs.Prelude.{◌≡◌, length};
 
 use floor::Look;
-use libc::STDOUT_FILENO;
+use std::fs::File;
+use std::io;
+use std::io::Read;
 use told::Told;
 
 // A vertex more than the most, a polygon more than the most, and a question twice too long.
@@ -16,17 +18,18 @@ const MOST_POLYGON_BYTES: usize = 32896;
 
 const MOST_QUESTION_BYTES: usize = 32;
 
-fn main() {
-    let path = b"cases";
-    let fd = os::open_read(path);
-    if fd < 0 {
-        os::fail(path);
-        return;
+fn main(rt: HostRuntime) -> io::Result<()> {
+    let path = "cases";
+    match File::open(&rt, path) {
+        Ok(mut file) => {
+            let cases = looked_at_all(&rt, &mut file)?;
+            println!(rt; "{cases} cases")
+        }
+        Err(e) => {
+            console::fail(&rt, path, &e);
+            Err(e)
+        }
     }
-    let cases = looked_at_all(fd);
-    libc::close(fd);
-    io::print_decimal(STDOUT_FILENO, cases);
-    io::write_all(STDOUT_FILENO, b" cases\n");
 }
 
 // Room for the bytes of a case. Only the length is said, which lending an array as a slice needs.
@@ -49,22 +52,22 @@ fn room_for_question() -> [u8; MOST_QUESTION_BYTES]
 }
 
 // Looks at case after case, up to a hundred thousand, and answers how many there were.
-fn looked_at_all(fd: i32) -> u64 {
+fn looked_at_all<R: Read>(rt: &impl Print, file: &mut R) -> io::Result<u64> {
     let mut cases: u64 = 0;
     while cases < 100_000 {
-        if !looked(fd) {
-            return cases;
+        if !looked(rt, file)? {
+            return Ok(cases);
         }
         cases += 1;
     }
-    cases
+    Ok(cases)
 }
 
 // Reads a case, looks at it and says what came out; false at the end of the file.
-fn looked(fd: i32) -> bool {
+fn looked<R: Read>(rt: &impl Print, file: &mut R) -> io::Result<bool> {
     let mut lengths = [0u8; 12];
-    if io::read_full(fd, &mut lengths) < 12 {
-        return false;
+    if !console::fills(file, &mut lengths)? {
+        return Ok(false);
     }
     let v = word::read(&lengths, 0);
     let p = word::read(&lengths, 4);
@@ -72,43 +75,49 @@ fn looked(fd: i32) -> bool {
     let mut vertices = room_for_vertices();
     let mut polygons = room_for_polygons();
     let mut question = room_for_question();
-    look_at_case(fd, v, p, q, &mut vertices, &mut polygons, &mut question);
-    true
+    look_at_case(
+        rt,
+        file,
+        v,
+        p,
+        q,
+        &mut vertices,
+        &mut polygons,
+        &mut question,
+    )?;
+    Ok(true)
 }
 
-fn look_at_case(
-    fd: i32,
+fn look_at_case<R: Read>(
+    rt: &impl Print,
+    file: &mut R,
     v: u32,
     p: u32,
     q: u32,
     vertices: &mut [u8],
     polygons: &mut [u8],
     question: &mut [u8],
-) {
-    let v = console::read_part(fd, v as usize, vertices);
-    let p = console::read_part(fd, p as usize, polygons);
-    let q = console::read_part(fd, q as usize, question);
-    say(floor::look_at(&vertices[..v], &polygons[..p], &question[..q]));
+) -> io::Result<()> {
+    let v = console::read_part(file, v as usize, vertices)?;
+    let p = console::read_part(file, p as usize, polygons)?;
+    let q = console::read_part(file, q as usize, question)?;
+    say(
+        rt,
+        floor::look_at(&vertices[..v], &polygons[..p], &question[..q]),
+    )
 }
 
-fn say(look: Look) {
+fn say(rt: &impl Print, look: Look) -> io::Result<()> {
     match look {
-        Look::Inside(start, goal) => {
-            io::write_all(STDOUT_FILENO, b"inside ");
-            io::print_decimal(STDOUT_FILENO, start as u64);
-            io::write_all(STDOUT_FILENO, b" ");
-            io::print_decimal(STDOUT_FILENO, goal as u64);
-        }
-        Look::Refused(refusal) => say_told(refusal.told()),
+        Look::Inside(start, goal) => println!(rt; "inside {start} {goal}"),
+        Look::Refused(refusal) => say_told(rt, refusal.told()),
     }
-    io::write_all(STDOUT_FILENO, b"\n");
 }
 
-fn say_told(told: Told) {
-    io::print_decimal(STDOUT_FILENO, told.number() as u64);
+fn say_told(rt: &impl Print, told: Told) -> io::Result<()> {
+    let number = told.number();
     let Told::AtRecord(_, record) = told else {
-        return;
+        return println!(rt; "{number}");
     };
-    io::write_all(STDOUT_FILENO, b" ");
-    io::print_decimal(STDOUT_FILENO, record as u64);
+    println!(rt; "{number} {record}")
 }

@@ -60,41 +60,19 @@ pub fn geometry_side(px: u32, py: u32, l0x: u32, l0y: u32, l1x: u32, l1y: u32) -
     side_number(Point::from_bits(px, py).side(segment(l0x, l0y, l1x, l1y)))
 }
 
-pub fn geometry_on_segment(
-    px: u32,
-    py: u32,
-    s0x: u32,
-    s0y: u32,
-    s1x: u32,
-    s1y: u32,
-) -> u32
+pub fn geometry_on_segment(px: u32, py: u32, s0x: u32, s0y: u32, s1x: u32, s1y: u32) -> u32
     ensures { result ≡ truth_number (on_segment_of (from_bits_of px py) (segment_of s0x s0y s1x s1y)) }
 {
     truth_number(Point::from_bits(px, py).on_segment(segment(s0x, s0y, s1x, s1y)))
 }
 
-pub fn geometry_in_bounding_box(
-    px: u32,
-    py: u32,
-    s0x: u32,
-    s0y: u32,
-    s1x: u32,
-    s1y: u32,
-) -> u32
+pub fn geometry_in_bounding_box(px: u32, py: u32, s0x: u32, s0y: u32, s1x: u32, s1y: u32) -> u32
     ensures { result ≡ truth_number (in_bounding_box_of (from_bits_of px py) (segment_of s0x s0y s1x s1y)) }
 {
     truth_number(Point::from_bits(px, py).in_bounding_box(segment(s0x, s0y, s1x, s1y)))
 }
 
-pub fn geometry_mirror(
-    px: u32,
-    py: u32,
-    l0x: u32,
-    l0y: u32,
-    l1x: u32,
-    l1y: u32,
-    out: &mut [u32; 2],
-)
+pub fn geometry_mirror(px: u32, py: u32, l0x: u32, l0y: u32, l1x: u32, l1y: u32, out: &mut [u32; 2])
     ensures { out.new ≡ point_bits (mirror_of (from_bits_of px py) (segment_of l0x l0y l1x l1y)) }
 {
     let mirrored = Point::from_bits(px, py).mirror(segment(l0x, l0y, l1x, l1y));

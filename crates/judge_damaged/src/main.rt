@@ -5,55 +5,87 @@
 
 ghost use Rattle.std.specs.Prelude.{◌≡◌, ◌+◌, ◌%◌, ◌≤◌, ◌<◌, length};
 
-use libc::STDOUT_FILENO;
+use std::io;
+use std::rt::Files;
 
-fn main() {
+fn main(rt: HostRuntime) -> io::Result<()> {
     let mut vertices = console::room_for_vertices();
     let mut polygons = console::room_for_polygons();
     let mut question = console::room_for_question();
     let mut route = console::room_for_route();
-    judge_files(&mut vertices, &mut polygons, &mut question, &mut route);
+    judge_files(&rt, &mut vertices, &mut polygons, &mut question, &mut route)
 }
 
-fn judge_files(vertices: &mut [u8], polygons: &mut [u8], question: &mut [u8], route: &mut [u8]) {
-    let v = console::read_file(b"floor.vtx", vertices);
-    let p = console::read_file(b"floor.ply", polygons);
-    let q = console::read_file(b"question", question);
-    let n = console::read_file(b"route", route);
-    judge_all(&vertices[..v], &polygons[..p], &question[..q], route, n);
+fn judge_files<R: Files + Print + Eprint>(
+    rt: &R,
+    vertices: &mut [u8],
+    polygons: &mut [u8],
+    question: &mut [u8],
+    route: &mut [u8],
+) -> io::Result<()> {
+    let v = console::read_file(rt, "floor.vtx", vertices);
+    let p = console::read_file(rt, "floor.ply", polygons);
+    let q = console::read_file(rt, "question", question);
+    let n = console::read_file(rt, "route", route);
+    judge_all(rt, &vertices[..v], &polygons[..p], &question[..q], route, n)
 }
 
-fn judge_all(vertices: &[u8], polygons: &[u8], question: &[u8], route: &mut [u8], n: usize)
+fn judge_all<R: Print + Eprint>(
+    rt: &R,
+    vertices: &[u8],
+    polygons: &[u8],
+    question: &[u8],
+    route: &mut [u8],
+    n: usize,
+) -> io::Result<()>
     requires { n ≤ length route.old }
 {
-    io::write_all(STDOUT_FILENO, b"as it is: ");
-    console::say(judge::judge(vertices, polygons, question, &route[..n]).told());
-    judge_changed(vertices, polygons, question, &mut route[..n]);
-    judge_cut(vertices, polygons, question, &route[..n]);
-    judge_longer(vertices, polygons, question, route, n);
+    print!(rt; "as it is: ")?;
+    console::say(
+        rt,
+        judge::judge(vertices, polygons, question, &route[..n]).told(),
+    );
+    judge_changed(rt, vertices, polygons, question, &mut route[..n])?;
+    judge_cut(rt, vertices, polygons, question, &route[..n])?;
+    judge_longer(rt, vertices, polygons, question, route, n)
 }
 
 // Each byte one more, 255 becoming 0, and then as it was again.
-fn judge_changed(vertices: &[u8], polygons: &[u8], question: &[u8], route: &mut [u8])
+fn judge_changed<R: Print + Eprint>(
+    rt: &R,
+    vertices: &[u8],
+    polygons: &[u8],
+    question: &[u8],
+    route: &mut [u8],
+) -> io::Result<()>
     ensures { route.new ≡ route.old }
 {
     let n = route.len();
     let mut i = 0;
     while i < n {
-        judge_with(vertices, polygons, question, route, i);
+        judge_with(rt, vertices, polygons, question, route, i)?;
         i += 1;
     }
+    Ok(())
 }
 
-fn judge_with(vertices: &[u8], polygons: &[u8], question: &[u8], route: &mut [u8], i: usize)
+fn judge_with<R: Print + Eprint>(
+    rt: &R,
+    vertices: &[u8],
+    polygons: &[u8],
+    question: &[u8],
+    route: &mut [u8],
+    i: usize,
+) -> io::Result<()>
     requires { i < length route.old }
     ensures { route.new ≡ route.old }
 {
-    say_place(b"byte ", i, b" one more: ");
+    print!(rt; "byte {i} one more: ")?;
     let before = route[i];
     route[i] = one_more(before);
-    console::say(judge::judge(vertices, polygons, question, route).told());
+    console::say(rt, judge::judge(vertices, polygons, question, route).told());
     route[i] = before;
+    Ok(())
 }
 
 fn one_more(byte: u8) -> u8
@@ -66,32 +98,55 @@ fn one_more(byte: u8) -> u8
 }
 
 // The front of the route, from none of its bytes to all but the last.
-fn judge_cut(vertices: &[u8], polygons: &[u8], question: &[u8], route: &[u8]) {
+fn judge_cut<R: Print + Eprint>(
+    rt: &R,
+    vertices: &[u8],
+    polygons: &[u8],
+    question: &[u8],
+    route: &[u8],
+) -> io::Result<()> {
     let mut i = 0;
     while i < route.len() {
-        judge_front(vertices, polygons, question, route, i);
+        judge_front(rt, vertices, polygons, question, route, i)?;
         i += 1;
     }
+    Ok(())
 }
 
-fn judge_front(vertices: &[u8], polygons: &[u8], question: &[u8], route: &[u8], i: usize)
+fn judge_front<R: Print + Eprint>(
+    rt: &R,
+    vertices: &[u8],
+    polygons: &[u8],
+    question: &[u8],
+    route: &[u8],
+    i: usize,
+) -> io::Result<()>
     requires { i < length route.now }
 {
-    say_place(b"cut to ", i, b" bytes: ");
-    console::say(judge::judge(vertices, polygons, question, &route[..i]).told());
+    print!(rt; "cut to {i} bytes: ")?;
+    console::say(
+        rt,
+        judge::judge(vertices, polygons, question, &route[..i]).told(),
+    );
+    Ok(())
 }
 
 // A zero byte behind the route, if there is room for one.
-fn judge_longer(vertices: &[u8], polygons: &[u8], question: &[u8], route: &mut [u8], n: usize) {
+fn judge_longer<R: Print + Eprint>(
+    rt: &R,
+    vertices: &[u8],
+    polygons: &[u8],
+    question: &[u8],
+    route: &mut [u8],
+    n: usize,
+) -> io::Result<()> {
     if n < route.len() {
         route[n] = 0;
-        io::write_all(STDOUT_FILENO, b"one zero byte longer: ");
-        console::say(judge::judge(vertices, polygons, question, &route[..n + 1]).told());
+        print!(rt; "one zero byte longer: ")?;
+        console::say(
+            rt,
+            judge::judge(vertices, polygons, question, &route[..n + 1]).told(),
+        );
     }
-}
-
-fn say_place(before: &[u8], i: usize, after: &[u8]) {
-    io::write_all(STDOUT_FILENO, before);
-    io::print_decimal(STDOUT_FILENO, i as u64);
-    io::write_all(STDOUT_FILENO, after);
+    Ok(())
 }

@@ -3,9 +3,11 @@
 // oracle/README.md says how. A record is 12 words: the function's number, eight bit patterns that go in, and the answer's
 // number and two bit patterns that come out.
 
-ghost use Rattle.std.specs.Prelude.{◌<◌, ◌≤◌};
+ghost use Rattle.std.specs.Prelude.{◌<◌, ◌≤◌, IfOk};
 
-use libc::STDOUT_FILENO;
+use std::fs::File;
+use std::io;
+use std::io::Read;
 
 const RECORD: usize = 48;
 
@@ -24,50 +26,49 @@ struct Count {
     differ: u64,
 }
 
-fn main() {
-    let path = b"answers";
-    let fd = os::open_read(path);
-    if fd < 0 {
-        os::fail(path);
-        return;
+fn main(rt: HostRuntime) -> io::Result<()> {
+    let path = "answers";
+    match File::open(&rt, path) {
+        Ok(mut file) => {
+            let count = replayed(&rt, &mut file)?;
+            let records = count.records;
+            let differ = count.differ;
+            println!(rt; "{records} answers of the Rust replayed, {differ} differ")
+        }
+        Err(e) => {
+            console::fail(&rt, path, &e);
+            Err(e)
+        }
     }
-    let count = replayed(fd);
-    libc::close(fd);
-    io::print_decimal(STDOUT_FILENO, count.records);
-    io::write_all(STDOUT_FILENO, b" answers of the Rust replayed, ");
-    io::print_decimal(STDOUT_FILENO, count.differ);
-    io::write_all(STDOUT_FILENO, b" differ\n");
 }
 
 // Reads record after record, up to a million, and stops at the end of the file.
-fn replayed(fd: i32) -> Count {
+fn replayed<R: Read>(rt: &impl Print, file: &mut R) -> io::Result<Count> {
     let mut records: u64 = 0;
     let mut differ: u64 = 0;
     let mut bytes = [0u8; RECORD];
     while records < 1_000_000 {
-        if io::read_full(fd, &mut bytes) < RECORD {
+        if !console::fills(file, &mut bytes)? {
             break;
         }
-        differ += compared(&bytes, records);
+        differ += compared(rt, &bytes, records)?;
         records += 1;
     }
-    Count { records, differ }
+    Ok(Count { records, differ })
 }
 
 // Counts one where our answer is not the Rust's, and names the record.
-fn compared(record: &[u8; 48], number: u64) -> u64
-    ensures { result ≤ 1 }
+fn compared(rt: &impl Print, record: &[u8; 48], number: u64) -> io::Result<u64>
+    ensures { IfOk result (λ n. n ≤ 1) }
 {
     let answer = ours(record);
     if answer.choice == word_of(record, 9)
         && (answer.x == word_of(record, 10) && answer.y == word_of(record, 11))
     {
-        return 0;
+        return Ok(0);
     }
-    io::write_all(STDOUT_FILENO, b"record ");
-    io::print_decimal(STDOUT_FILENO, number);
-    io::write_all(STDOUT_FILENO, b" differs\n");
-    1
+    println!(rt; "record {number} differs")?;
+    Ok(1)
 }
 
 // Word k of a record.

@@ -7,14 +7,15 @@
 ghost use Rattle.std.specs.Prelude.{◌≡◌, length};
 
 use search::Answer;
+use std::rt::Files;
 use told::Told;
 
-fn main() {
+fn main(rt: HostRuntime) {
     let mut vertices = console::room_for_vertices();
     let mut polygons = console::room_for_polygons();
     let mut question = console::room_for_question();
     let mut out = room_for_output();
-    find(&mut vertices, &mut polygons, &mut question, &mut out);
+    find(&rt, &mut vertices, &mut polygons, &mut question, &mut out);
 }
 
 // Room for 2,047 nodes: 11 floats, 8 words and 2 words of the queue each. Only the length is said, which lending an array as a
@@ -50,23 +51,29 @@ fn room_for_output() -> [u8; 65536]
     [0; 65536]
 }
 
-fn find(vertices: &mut [u8], polygons: &mut [u8], question: &mut [u8], out: &mut [u8]) {
-    let v = console::read_file(b"floor.vtx", vertices);
-    let p = console::read_file(b"floor.ply", polygons);
-    let q = console::read_input(question);
+fn find<R: Files + Input + Print + Eprint>(
+    rt: &R,
+    vertices: &mut [u8],
+    polygons: &mut [u8],
+    question: &mut [u8],
+    out: &mut [u8],
+) {
+    let v = console::read_file(rt, "floor.vtx", vertices);
+    let p = console::read_file(rt, "floor.ply", polygons);
+    let q = console::read_input(rt, question);
     let answer = search_files(&vertices[..v], &polygons[..p], &question[..q], out);
     let told = answer.told();
     let Told::WithCount(_, bytes) = told else {
-        console::complain(told);
+        console::complain(rt, told);
         return;
     };
-    write_route(out, bytes);
+    write_route(rt, out, bytes);
 }
 
 // A route that was found fits the output: that is a law (`found_fits`), and the test here never fails.
-fn write_route(out: &[u8], bytes: usize) {
+fn write_route<R: Print + Eprint>(rt: &R, out: &[u8], bytes: usize) {
     if bytes <= out.len() {
-        console::write_out(&out[..bytes]);
+        console::write_out(rt, &out[..bytes]);
     }
 }
 
