@@ -142,7 +142,7 @@ module _ (s : ℕ) (vs ps : List ℕ) where
         few = subst (λ (k : ℕ). length ps / (k * 8) ≤ 512) (sym plan_slots) few-polygons;
       };
       accepted = subst (λ (k : ℕ). Accepted (floor_of k vs ps)) (sym plan_slots) accepted;
-      turns_marked_lem = λ v h.
+      turns_are_marked = λ v h.
           subst (λ (k : ℕ). is_marked (plan_of s vs ps) v ≡ is_turn (floor_of k vs ps) v) (sym plan_slots)
           (plan_turns v (lt_of_lt_of_le (subst (λ (n : ℕ). v < n) plan_vertices h) few));
     }

@@ -9,4 +9,4 @@ pub record Ground (plan vertices polygons : List ℕ) : Type 0 where
   pub vertices_planned : VerticesPlanned plan vertices
   pub polygons_planned : PolygonsPlanned plan polygons
   pub accepted : Accepted (floor_in plan vertices polygons)
-  pub turns_marked_lem : (v : ℕ) → v < vertex_count_in plan → is_marked plan v ≡ is_turn (floor_in plan vertices polygons) v
+  pub turns_are_marked : (v : ℕ) → v < vertex_count_in plan → is_marked plan v ≡ is_turn (floor_in plan vertices polygons) v

@@ -149,7 +149,7 @@ module _ (plan vs ps : List ℕ) (t : Task) (g : Ground plan vs ps) (listed : t.
     };
     some = omega arith;
     taken_in = places;
-    seed_node_lem = its_seed;
+    first_is_seed = its_seed;
     seed_parent = its_parent;
     seed_depth = its_depth;
     held = λ i l. subst (Held plan vs ps first.work) (lowest i l) first_held;

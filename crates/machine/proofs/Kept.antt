@@ -111,7 +111,7 @@ module _ (plan vs ps : List ℕ) (t : Task) (seed : Node) where
         fit = fit_beside t s floats c h.fit same long taken few;
         some = rw taken h.some;
         taken_in = rw taken h.taken_in;
-        seed_node_lem = node 0 h.some ∙ h.seed_node_lem;
+        first_is_seed = node 0 h.some ∙ h.first_is_seed;
         seed_parent = h.seed_parent;
         seed_depth = h.seed_depth;
         held = λ i l. held i (rw taken at l) (h.held i (rw taken at l));
@@ -147,7 +147,7 @@ module _ (plan vs ps : List ℕ) (t : Task) (seed : Node) where
     fit = fit_queued t s c i b h.fit taken records low;
     some = rw taken h.some;
     taken_in = rw taken h.taken_in;
-    seed_node_lem = h.seed_node_lem;
+    first_is_seed = h.first_is_seed;
     seed_parent = h.seed_parent;
     seed_depth = h.seed_depth;
     held = λ j l. held_kept (put_queued n s.work i b) s.work s.counts.taken (λ i l k b. refl) (λ i l k b. refl) (λ i l. refl) j (rw taken at l)
@@ -372,7 +372,7 @@ module _ (plan vs ps : List ℕ) (t : Task) (seed : Node) where
         fit = fit_placed t s o kind node value h.fit;
         some = omega arith;
         taken_in = omega (arith, space);
-        seed_node_lem = node_below 0 h.some ∙ h.seed_node_lem;
+        first_is_seed = node_below 0 h.some ∙ h.first_is_seed;
         seed_parent = parent_same new.words s.work.words 0 (words_below 0 h.some) ∙ h.seed_parent;
         seed_depth = depth_below 0 h.some ∙ h.seed_depth;
         held = λ j l. held_at j l (which i j);

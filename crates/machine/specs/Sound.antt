@@ -71,7 +71,7 @@ pub record Sound (plan vertices polygons : List ℕ) (t : Task) (seed : Node) (s
   pub fit : Fit t s
   pub some : 1 ≤ s.counts.taken
   pub taken_in : s.counts.taken ≤ t.places
-  pub seed_node_lem : node_at s.work 0 ≡ seed
+  pub first_is_seed : node_at s.work 0 ≡ seed
   pub seed_parent : parent_at s.work 0 ≡ 0
   pub seed_depth : depth_at s.work 0 ≡ 0
   pub held : (i : ℕ) → i < s.counts.taken → Held plan vertices polygons s.work i

@@ -8,8 +8,10 @@
 ghost use Rattle.std.specs.Prelude.{◌≡◌, length};
 ghost use Rattle.routes.specs.Stored.{holds_of, byte_of};
 
-use libc::STDOUT_FILENO;
 use search::Answer;
+use std::fs::File;
+use std::io;
+use std::io::Read;
 use told::Told;
 
 // How many bytes each part of a case has.
@@ -47,41 +49,42 @@ const MOST_NAME_BYTES: usize = 64;
 
 const MOST_CASES: u64 = 100_000;
 
-fn main() {
-    let path = b"cases";
-    let fd = os::open_read(path);
-    if fd < 0 {
-        os::fail(path);
-        return;
+fn main(rt: HostRuntime) -> io::Result<()> {
+    let path = "cases";
+    match File::open(&rt, path) {
+        Ok(mut file) => {
+            let cases = tried_all(&rt, &mut file)?;
+            println!(rt; "{cases} cases")
+        }
+        Err(e) => {
+            console::fail(&rt, path, &e);
+            Err(e)
+        }
     }
-    let cases = tried_all(fd);
-    libc::close(fd);
-    io::print_decimal(STDOUT_FILENO, cases);
-    io::write_all(STDOUT_FILENO, b" cases\n");
 }
 
 // Case after case, and how many there were.
-fn tried_all(fd: i32) -> u64 {
+fn tried_all<R: Read>(rt: &(impl Print + Eprint), file: &mut R) -> io::Result<u64> {
     let mut cases: u64 = 0;
     while cases < MOST_CASES {
-        if !tried(fd) {
-            return cases;
+        if !tried(rt, file)? {
+            return Ok(cases);
         }
         cases += 1;
     }
-    cases
+    Ok(cases)
 }
 
 // Reads a case, searches and says what came out; false at the end of the file.
-fn tried(fd: i32) -> bool {
+fn tried<R: Read>(rt: &(impl Print + Eprint), file: &mut R) -> io::Result<bool> {
     let mut header = [0u8; HEADER_BYTES];
-    if io::read_full(fd, &mut header) < HEADER_BYTES {
-        return false;
+    if !console::fills(file, &mut header)? {
+        return Ok(false);
     }
     let parts = parts_of(&header);
-    say_name(fd, parts.name);
-    read_and_try(fd, parts, lent_of(&header), stored_of(&header));
-    true
+    say_name(rt, file, parts.name)?;
+    read_and_try(rt, file, parts, lent_of(&header), stored_of(&header))?;
+    Ok(true)
 }
 
 fn parts_of(header: &[u8; 44]) -> Parts {
@@ -110,30 +113,37 @@ fn stored_of(header: &[u8; 44]) -> Stored {
     }
 }
 
-fn say_name(fd: i32, n: usize) {
+fn say_name<R: Read>(rt: &impl Print, file: &mut R, n: usize) -> io::Result<()> {
     let mut room = [0u8; MOST_NAME_BYTES];
-    let n = console::read_part(fd, n, &mut room);
-    io::write_all(STDOUT_FILENO, &room[..n]);
-    io::write_all(STDOUT_FILENO, b": ");
+    let n = console::read_part(file, n, &mut room)?;
+    rt.write_all(&room[..n])?;
+    print!(rt; ": ")
 }
 
-fn read_and_try(fd: i32, parts: Parts, lent: Lent, stored: Stored) {
+fn read_and_try<R: Read>(
+    rt: &(impl Print + Eprint),
+    file: &mut R,
+    parts: Parts,
+    lent: Lent,
+    stored: Stored,
+) -> io::Result<()> {
     let mut vertices = console::room_for_vertices();
     let mut polygons = console::room_for_polygons();
     let mut question = console::room_for_question();
     let mut route = console::room_for_route();
-    let v = console::read_part(fd, parts.vertices, &mut vertices);
-    let p = console::read_part(fd, parts.polygons, &mut polygons);
-    let q = console::read_part(fd, parts.question, &mut question);
-    let r = console::read_part(fd, parts.route, &mut route);
+    let v = console::read_part(file, parts.vertices, &mut vertices)?;
+    let p = console::read_part(file, parts.polygons, &mut polygons)?;
+    let q = console::read_part(file, parts.question, &mut question)?;
+    let r = console::read_part(file, parts.route, &mut route)?;
     try_case(
+        rt,
         lent,
         stored,
         &vertices[..v],
         &polygons[..p],
         &question[..q],
         &route[..r],
-    );
+    )
 }
 
 // Room for the longest route. Only the length is said, which lending an array as a slice needs.
@@ -144,16 +154,18 @@ fn room_for_output() -> [u8; 131104]
 }
 
 fn try_case(
+    rt: &(impl Print + Eprint),
     lent: Lent,
     stored: Stored,
     vertices: &[u8],
     polygons: &[u8],
     question: &[u8],
     route: &[u8],
-) {
+) -> io::Result<()> {
     let mut out = room_for_output();
     let room = console::at_most(lent.room, out.len());
     try_with(
+        rt,
         lent,
         stored,
         vertices,
@@ -161,10 +173,11 @@ fn try_case(
         question,
         route,
         &mut out[..room],
-    );
+    )
 }
 
 fn try_with(
+    rt: &(impl Print + Eprint),
     lent: Lent,
     stored: Stored,
     vertices: &[u8],
@@ -172,13 +185,13 @@ fn try_with(
     question: &[u8],
     route: &[u8],
     out: &mut [u8],
-) {
+) -> io::Result<()> {
     let answer = search_with(lent, vertices, polygons, question, out);
     let told = answer.told();
     let steps = answer.steps();
-    say(told, steps);
-    say_whether(is_as_stored(stored, told, steps, out, route));
-    judge_found(told, vertices, polygons, question, out);
+    say(rt, told, steps)?;
+    say_whether(rt, is_as_stored(stored, told, steps, out, route))?;
+    judge_found(rt, told, vertices, polygons, question, out)
 }
 
 // Room for 4,096 nodes: 11 floats, 8 words and 2 words of the queue each.
@@ -235,31 +248,28 @@ fn search_with(
 }
 
 // The number, the words, the counted steps and the bytes, as "1 no route was found, steps 18, bytes 0".
-fn say(told: Told, steps: usize) {
-    io::print_decimal(STDOUT_FILENO, told.number() as u64);
-    io::write_all(STDOUT_FILENO, b" ");
-    say_words(told.number());
-    io::write_all(STDOUT_FILENO, b", steps ");
-    io::print_decimal(STDOUT_FILENO, steps as u64);
-    io::write_all(STDOUT_FILENO, b", bytes ");
-    io::print_decimal(STDOUT_FILENO, bytes_of(told) as u64);
+fn say(rt: &(impl Print + Eprint), told: Told, steps: usize) -> io::Result<()> {
+    let number = told.number();
+    print!(rt; "{number} ")?;
+    say_words(rt, number)?;
+    let bytes = bytes_of(told);
+    print!(rt; ", steps {steps}, bytes {bytes}")
 }
 
 // Of a search 0 says found; the judge's word for it is accepted.
-fn say_words(number: u32) {
+fn say_words(rt: &(impl Print + Eprint), number: u32) -> io::Result<()> {
     if number == 0 {
-        io::write_all(STDOUT_FILENO, b"found");
-        return;
+        return print!(rt; "found");
     }
-    console::say_words(number);
+    console::say_words(rt, number);
+    Ok(())
 }
 
-fn say_whether(same: bool) {
+fn say_whether(rt: &impl Print, same: bool) -> io::Result<()> {
     if same {
-        io::write_all(STDOUT_FILENO, b", as stored");
-        return;
+        return print!(rt; ", as stored");
     }
-    io::write_all(STDOUT_FILENO, b", NOT AS STORED");
+    print!(rt; ", NOT AS STORED")
 }
 
 // The bytes that were written.
@@ -297,6 +307,7 @@ fn holds(out: &[u8], route: &[u8]) -> bool
     true
 }
 
+#[tactic(auto, unfolding(crate::specs::Stored::byte_of))]
 fn byte_of(route: &[u8], i: usize) -> u8
     ensures { result ≡ byte_of route.now i }
 {
@@ -307,18 +318,35 @@ fn byte_of(route: &[u8], i: usize) -> u8
 }
 
 // What the judge says of a route that was found, and the end of the line.
-fn judge_found(told: Told, vertices: &[u8], polygons: &[u8], question: &[u8], out: &[u8]) {
+fn judge_found(
+    rt: &(impl Print + Eprint),
+    told: Told,
+    vertices: &[u8],
+    polygons: &[u8],
+    question: &[u8],
+    out: &[u8],
+) -> io::Result<()> {
     let Told::WithCount(_, bytes) = told else {
-        io::write_all(STDOUT_FILENO, b"\n");
-        return;
+        return println!(rt);
     };
-    judge_front(vertices, polygons, question, out, bytes);
+    judge_front(rt, vertices, polygons, question, out, bytes)
 }
 
 // A route that was found fits the output: that is a law (`found_fits`), and the test here never fails.
-fn judge_front(vertices: &[u8], polygons: &[u8], question: &[u8], out: &[u8], bytes: usize) {
+fn judge_front(
+    rt: &(impl Print + Eprint),
+    vertices: &[u8],
+    polygons: &[u8],
+    question: &[u8],
+    out: &[u8],
+    bytes: usize,
+) -> io::Result<()> {
     if bytes <= out.len() {
-        io::write_all(STDOUT_FILENO, b", judged ");
-        console::say(judge::judge(vertices, polygons, question, &out[..bytes]).told());
+        print!(rt; ", judged ")?;
+        console::say(
+            rt,
+            judge::judge(vertices, polygons, question, &out[..bytes]).told(),
+        );
     }
+    Ok(())
 }

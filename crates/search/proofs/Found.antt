@@ -47,7 +47,7 @@ module _ (plan vs ps : List ℕ) (t : Task) where
 
     chain_of_seed : Trailed 0
     unfolding chain_bytes world_in
-    chain_of_seed = rw (h.seed_node_lem, h.seed_depth) seeded
+    chain_of_seed = rw (h.first_is_seed, h.seed_depth) seeded
 
     chain_longer : (i : ℕ) → Entered f t w i → chain i ≡ chain (parent_at w i) ++ step_bytes (step_at w i)
     unfolding chain_bytes

@@ -45,7 +45,7 @@ pub data Row : Type 0 where
   meets : Segment → Segment → Crossing → Row
   time : Segment → Segment → Float → Row
   heuristic : Point → Point → Segment → Float → Row
-  turning_point_lem : Point → Point → Segment → Turn → Row
+  turning_point : Point → Point → Segment → Turn → Row
   clip : Point → Segment → Segment → Clipped → Row
   root : ℕ → ℕ → Row
 
@@ -54,7 +54,7 @@ Holds (side p l s) = side_of p l ≡ s
 Holds (meets l s c) = line_intersect_segment_of l s ≡ c
 Holds (time l s t) = intersection_time_of l s ≡ t
 Holds (heuristic r g i h) = heuristic_of r g i ≡ h
-Holds (turning_point_lem r g i t) = turning_point_of r g i ≡ t
+Holds (turning_point r g i t) = turning_point_of r g i ≡ t
 Holds (clip r c s seen) = clip_to_cone_of r c s ≡ seen
 Holds (root x r) = to_bits binary32 (root_of (f32 x)) ≡ r
 
@@ -78,7 +78,7 @@ table =
     -- "Interval (1,2),(−1,2), root (0,0): heuristic to (0,4) is 4, to (0,1) 3; turning_point for (4,4) (1,2)."
     ∷ heuristic (from_bits_of 0' 0') (from_bits_of 0' 4') (line 1' 2' -1' 2') (f32 4')
     ∷ heuristic (from_bits_of 0' 0') (from_bits_of 0' 1') (line 1' 2' -1' 2') (f32 3')
-    ∷ turning_point_lem (from_bits_of 0' 0') (from_bits_of 4' 4') (line 1' 2' -1' 2') (Around (from_bits_of 1' 2'))
+    ∷ turning_point (from_bits_of 0' 0') (from_bits_of 4' 4') (line 1' 2' -1' 2') (Around (from_bits_of 1' 2'))
     -- "Clip, root (0,0), cone (1,0),(0,1): (2,−3),(3,−3) none."
     ∷ clip (from_bits_of 0' 0') (line 1' 0' 0' 1') (line 2' -3' 3' -3') Nothing
     -- "root of 2 is 0x3FB504F3; of 0x00000001, 0x1A3504F3."

@@ -2,12 +2,12 @@
 // Runs document 01's examples of the geometry and a list of IEEE 754 square roots. Each line says what came out; the
 // last lines count what was as it should be.
 
-ghost use Rattle.std.specs.Prelude.{◌≤◌};
+ghost use Rattle.std.specs.Prelude.{◌≤◌, IfOk};
 
 use cone::Clipped;
 use helpers::{Crossing, Turn};
-use libc::STDOUT_FILENO;
 use point::{EdgeSide, Point, Segment};
+use std::io;
 
 const COUNT: usize = 51;
 
@@ -30,153 +30,143 @@ const ROOTS: [u32; 102] = [
     0xFF7FFFFF, 0x7FC00000, 0xFF800000, 0x7FC00000, 0xFFFFFFFF, 0x7FC00000,
 ];
 
-fn main() {
-    sides();
-    crossings();
-    ways_to_the_goal();
-    clips();
-    roots();
-}
-
-fn say(words: &[u8]) {
-    io::write_all(STDOUT_FILENO, words);
+fn main(rt: HostRuntime) -> io::Result<()> {
+    sides(&rt)?;
+    crossings(&rt)?;
+    ways_to_the_goal(&rt)?;
+    clips(&rt)?;
+    roots(&rt)
 }
 
 // A line's first words, then the side.
-fn say_side(words: &[u8], side: EdgeSide) {
-    say(words);
+fn say_side(rt: &impl Print, words: &str, side: EdgeSide) -> io::Result<()> {
     match side {
-        EdgeSide::Left => say(b"Left\n"),
-        EdgeSide::Right => say(b"Right\n"),
-        EdgeSide::Edge => say(b"Edge\n"),
+        EdgeSide::Left => println!(rt; "{words}Left"),
+        EdgeSide::Right => println!(rt; "{words}Right"),
+        EdgeSide::Edge => println!(rt; "{words}Edge"),
     }
 }
 
-// Eight hexadecimal digits.
-fn say_bits(bits: u32) {
-    io::print_hex(STDOUT_FILENO, bits as u64, 8);
+// A float by its bits, eight hexadecimal digits.
+fn say_float(rt: &impl Print, words: &str, x: f32) -> io::Result<()> {
+    let bits = float::to_bits(x);
+    println!(rt; "{words}{bits:08x}")
 }
 
-fn say_float(words: &[u8], x: f32) {
-    say(words);
-    say_bits(float::to_bits(x));
-    say(b"\n");
+fn say_point(rt: &impl Print, words: &str, point: Point) -> io::Result<()> {
+    let x = float::to_bits(point.x);
+    let y = float::to_bits(point.y);
+    println!(rt; "{words}{x:08x} {y:08x}")
 }
 
-fn say_point(point: Point) {
-    say_bits(float::to_bits(point.x));
-    say(b" ");
-    say_bits(float::to_bits(point.y));
-    say(b"\n");
-}
-
-fn sides() {
+fn sides(rt: &impl Print) -> io::Result<()> {
     let line = Segment(Point::new(0.0, 0.0), Point::new(1.0, 0.0));
     say_side(
-        b"side of (0,1) to (0,0)-(1,0): ",
+        rt,
+        "side of (0,1) to (0,0)-(1,0): ",
         Point::new(0.0, 1.0).side(line),
-    );
+    )?;
     say_side(
-        b"side of (0,1e-4): ",
+        rt,
+        "side of (0,1e-4): ",
         Point::new(0.0, Point::EPSILON).side(line),
-    );
+    )?;
     let below = Point::from_bits(0, 0x38D1_B716);
-    say_side(b"side of (0,the float below 1e-4): ", below.side(line));
+    say_side(rt, "side of (0,the float below 1e-4): ", below.side(line))?;
     let missing = Point::from_bits(0, 0x7FC0_0000);
-    say_side(b"side of (0,NaN): ", missing.side(line));
+    say_side(rt, "side of (0,NaN): ", missing.side(line))
 }
 
-fn crossings() {
+fn crossings(rt: &impl Print) -> io::Result<()> {
     let line = Segment(Point::new(0.0, 0.0), Point::new(2.0, 2.0));
     let other = Segment(Point::new(2.0, 0.0), Point::new(0.0, 2.0));
     say_crossing(
-        b"(0,0)-(2,2) meets (2,0)-(0,2): ",
+        rt,
+        "(0,0)-(2,2) meets (2,0)-(0,2): ",
         helpers::line_intersect_segment(line, other),
-    );
-    say_float(b"  at the time ", helpers::intersection_time(line, other));
+    )?;
+    say_float(
+        rt,
+        "  at the time ",
+        helpers::intersection_time(line, other),
+    )?;
     let flat = Segment(Point::new(0.0, 0.0), Point::new(1.0, 0.0));
     say_crossing(
-        b"(0,0)-(1,0) meets itself: ",
+        rt,
+        "(0,0)-(1,0) meets itself: ",
         helpers::line_intersect_segment(flat, flat),
-    );
+    )
 }
 
-fn say_crossing(words: &[u8], crossing: Crossing) {
-    say(words);
+fn say_crossing(rt: &impl Print, words: &str, crossing: Crossing) -> io::Result<()> {
     match crossing {
-        Crossing::At(point) => say_point(point),
-        Crossing::Nowhere => say(b"nowhere\n"),
+        Crossing::At(point) => say_point(rt, words, point),
+        Crossing::Nowhere => println!(rt; "{words}nowhere"),
     }
 }
 
-fn ways_to_the_goal() {
+fn ways_to_the_goal(rt: &impl Print) -> io::Result<()> {
     let root = Point::new(0.0, 0.0);
     let interval = Segment(Point::new(1.0, 2.0), Point::new(-1.0, 2.0));
-    say(b"interval (1,2),(-1,2), root (0,0)\n");
+    println!(rt; "interval (1,2),(-1,2), root (0,0)")?;
     say_float(
-        b"  heuristic to (0,4): ",
+        rt,
+        "  heuristic to (0,4): ",
         helpers::heuristic(root, Point::new(0.0, 4.0), interval),
-    );
+    )?;
     say_float(
-        b"  heuristic to (0,1): ",
+        rt,
+        "  heuristic to (0,1): ",
         helpers::heuristic(root, Point::new(0.0, 1.0), interval),
-    );
-    say(b"  turning point for (4,4): ");
+    )?;
+    let words = "  turning point for (4,4): ";
     match helpers::turning_point(root, Point::new(4.0, 4.0), interval) {
-        Turn::Around(point) => say_point(point),
-        Turn::Straight => say(b"none\n"),
+        Turn::Around(point) => say_point(rt, words, point),
+        Turn::Straight => println!(rt; "{words}none"),
     }
 }
 
-fn clips() {
+fn clips(rt: &impl Print) -> io::Result<()> {
     let root = Point::new(0.0, 0.0);
     let interval = Segment(Point::new(1.0, 0.0), Point::new(0.0, 1.0));
     let segment = Segment(Point::new(2.0, -3.0), Point::new(3.0, -3.0));
-    say(b"root (0,0), cone (1,0),(0,1)\n");
-    say(b"  clip of (2,-3),(3,-3): ");
+    println!(rt; "root (0,0), cone (1,0),(0,1)")?;
+    let words = "  clip of (2,-3),(3,-3): ";
     match cone::clip_to_cone(root, interval, segment) {
         Clipped::Seen(seen) => {
-            say_point(seen.0);
-            say_point(seen.1);
+            say_point(rt, words, seen.0)?;
+            say_point(rt, "", seen.1)
         }
-        Clipped::Nothing => say(b"none\n"),
+        Clipped::Nothing => println!(rt; "{words}none"),
     }
 }
 
-fn roots() {
-    let right = right_roots();
-    io::print_decimal(STDOUT_FILENO, right);
-    say(b" roots right of ");
-    io::print_decimal(STDOUT_FILENO, COUNT as u64);
-    say(b"\n");
+fn roots(rt: &impl Print) -> io::Result<()> {
+    let right = right_roots(rt)?;
+    println!(rt; "{right} roots right of {COUNT}")
 }
 
 // Says each root, and answers how many are as they should be.
-fn right_roots() -> u64 {
+fn right_roots(rt: &impl Print) -> io::Result<u64> {
     let mut right: u64 = 0;
     let mut i = 0;
     while i < COUNT {
-        right += say_root(ROOTS[2 * i], ROOTS[2 * i + 1]);
+        right += say_root(rt, ROOTS[2 * i], ROOTS[2 * i + 1])?;
         i += 1;
     }
-    right
+    Ok(right)
 }
 
 // Says the root of a pattern, and counts one where it is as it should be.
-fn say_root(x: u32, expected: u32) -> u64
-    ensures { result ≤ 1 }
+fn say_root(rt: &impl Print, x: u32, expected: u32) -> io::Result<u64>
+    ensures { IfOk result (λ n. n ≤ 1) }
 {
     let got = geometry_c::geometry_root(x);
-    say(b"root of ");
-    say_bits(x);
-    say(b" is ");
-    say_bits(got);
+    print!(rt; "root of {x:08x} is {got:08x}")?;
     if got == expected {
-        say(b"\n");
-        return 1;
+        println!(rt)?;
+        return Ok(1);
     }
-    say(b", and should be ");
-    say_bits(expected);
-    say(b"\n");
-    0
+    println!(rt; ", and should be {expected:08x}")?;
+    Ok(0)
 }

@@ -26,7 +26,7 @@ use Rattle.view.specs.View.{corner_on, view_of, allows_of, keeps_by, clips_by, n
 -- by the plan of a floor the view is the floor's
 module _ {plan vs ps : List ℕ} (g : Ground plan vs ps) where
   pub marks_tell : (v : ℕ) → v < vertex_count_in plan → is_marked plan v ≡ is_turn (floor_in plan vs ps) v
-  marks_tell v h = g.turns_marked_lem v h
+  marks_tell v h = g.turns_are_marked v h
 
   pub view_by_plan : (node : Node) → node.first < vertex_count_in plan → node.second < vertex_count_in plan
       → view_of (vertices_of vs) (is_marked plan) node ≡ view_of (vertices_of vs) (is_turn (floor_in plan vs ps)) node
