@@ -1,7 +1,7 @@
 /* The planner and the judge for a cart's controller: finds a route, reads a route before the cart moves, lists its points.
 
-   Link libcart_c.a, for x86-64: ./install puts it into lib/, and `rt staticlib cart_c` into target/staticlib. examples/run builds
-   and runs programs over it. Each function here is proved to answer as crates/cart_c says, on any bytes at all. cart.rs is this file for Rust.
+   Link libcart_c.a, for x86-64: ./install puts it into lib/. examples/run builds it into target/staticlib, and runs programs
+   over it. Each function here is proved to answer as crates/cart_c says, on any bytes at all. cart.rs is this file for Rust.
    docs/FORMATS.md has each byte of a floor, a question and a route.
 
    Bytes are little-endian, whatever the processor. The byte pointers need no alignment; every other pointer is aligned as its

@@ -1,12 +1,12 @@
 # Sourced by the scripts of examples and by build.sh: where things are, what it takes to build and run a program over a library that rt writes,
 # and the building of one in C. It looks, and says in one line what is missing; it installs nothing.
-# rt writes libraries for x86-64 alone. On another processor a compiler for x86-64 builds the program, and the kit's emulator runs it: a program that is
-# linked statically, as those in C are, by itself; any other with the kit's own C library for x86-64. Neither takes a package.
+# The kit is for x86-64: rt runs there alone, and writes libraries for it.
 
 here=$(cd "$(dirname "${BASH_SOURCE[0]}")" && pwd)
 root=$(dirname "$here")
 out=$root/target/oracle
-processor=$(uname -m)
+# The C compiler, and the Debian packages that it and its C library come in.
+compiler=gcc compiler_packages=(gcc libc6-dev)
 script=$(basename "$(cd "$(dirname "$0")" && pwd)")/$(basename "$0")
 
 fail() {
@@ -21,36 +21,11 @@ make_folder() { # FOLDER
 make_folder "$out"
 
 need_rt() {
+    [ "$(uname -m)" = x86_64 ] || fail "the Rattle kit is for x86-64, and this processor is $(uname -m)"
     command -v rt >/dev/null || fail "the command rt is missing; it comes with the Rattle kit"
 }
 
-# The kit's folder.
-need_kit() {
-    need_rt
-    kit=${RATTLE_HOME:-$(dirname "$(dirname "$(readlink -f "$(command -v rt)")")")}
-}
-
-# What a program for x86-64 is run by, in front of its name: nothing on x86-64 itself. `by` serves one that is linked statically, `by_shared` any other.
-need_emulator() {
-    emulator='' by=() by_shared=()
-    [ "$processor" != x86_64 ] || return 0
-    need_kit
-    local tools=$kit/on/$processor/toolchain
-    emulator=$tools/bin/qemu-x86_64
-    [ -x "$emulator" ] || fail "the kit in $kit has no emulator of x86-64 for $processor"
-    by=("$emulator")
-    by_shared=("$emulator" "$tools/lib/ld-linux-x86-64.so.2" --library-path "$tools/lib")
-}
-
-# The C compiler for x86-64, and the Debian packages that it and its C library come in.
-name_compiler() {
-    compiler=gcc compiler_packages=(gcc libc6-dev)
-    [ "$processor" != x86_64 ] || return 0
-    compiler=x86_64-linux-gnu-gcc compiler_packages=(gcc-x86-64-linux-gnu libc6-dev-amd64-cross)
-}
-
 need_compiler() {
-    name_compiler
     command -v "$compiler" >/dev/null || fail "the command $compiler is missing; Debian has it in the package ${compiler_packages[0]}"
     # gcc answers with a path where it has the file, and else with the bare name.
     [ -f "$("$compiler" -print-file-name=libc.a)" ] ||
@@ -78,14 +53,17 @@ need_rustc() {
     fail "rustc has no library for $rust_target; rustup target add $rust_target brings it, or Debian's rustc$(web) with libstd-rust$(web)-dev:amd64"
 }
 
-# The libraries for C, in target/staticlib.
+# The libraries for C, as target/staticlib/libCRATE.a. What rt makes a static library of is a crate of its own, CRATE_c, which exports CRATE's functions;
+# its archive gets CRATE's name here.
 prove_libraries() { # CRATE...
     local crate log
     need_rt
+    make_folder "$root/target/staticlib"
     for crate in "$@"; do
         log=$out/$crate.log
         { : >"$log"; } 2>/dev/null || fail "the file $log cannot be written"
-        (cd "$root" && rt staticlib "$crate") >"$log" 2>&1 || fail "$crate is not proved; $log says why"
+        (cd "$root/crates/${crate}_c" && rt lib) >"$log" 2>&1 || fail "$crate is not proved; $log says why"
+        cp "$root/crates/${crate}_c/out/lib${crate}_c.a" "$root/target/staticlib/lib$crate.a" || fail "the library lib$crate.a cannot be copied"
     done
 }
 

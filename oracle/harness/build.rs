@@ -1,4 +1,4 @@
-//! Tells cargo where `rt staticlib` put the libraries, so that a new library is linked anew.
+//! Tells cargo where build.sh put the libraries, so that a new library is linked anew.
 
 fn main() {
     println!("cargo:rerun-if-env-changed=STATICLIB");
