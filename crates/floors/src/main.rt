@@ -95,9 +95,9 @@ fn look_at_case<R: Read>(
     polygons: &mut [u8],
     question: &mut [u8],
 ) -> io::Result<()> {
-    let v = console::read_part(file, v as usize, vertices)?;
-    let p = console::read_part(file, p as usize, polygons)?;
-    let q = console::read_part(file, q as usize, question)?;
+    let v = console::read_part(file, v as usize, vertices);
+    let p = console::read_part(file, p as usize, polygons);
+    let q = console::read_part(file, q as usize, question);
     say(
         rt,
         floor::look_at(&vertices[..v], &polygons[..p], &question[..q]),

@@ -23,10 +23,10 @@ fn judge_files<R: Files + Print + Eprint>(
     question: &mut [u8],
     route: &mut [u8],
 ) -> io::Result<()> {
-    let v = console::read_file(rt, "floor.vtx", vertices);
-    let p = console::read_file(rt, "floor.ply", polygons);
-    let q = console::read_file(rt, "question", question);
-    let n = console::read_file(rt, "route", route);
+    let v = console::read_file(rt, b"floor.vtx", vertices);
+    let p = console::read_file(rt, b"floor.ply", polygons);
+    let q = console::read_file(rt, b"question", question);
+    let n = console::read_file(rt, b"route", route);
     judge_all(rt, &vertices[..v], &polygons[..p], &question[..q], route, n)
 }
 

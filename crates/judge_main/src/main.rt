@@ -21,9 +21,9 @@ fn judge_files<R: Files + Input + Print + Eprint>(
     question: &mut [u8],
     route: &mut [u8],
 ) {
-    let v = console::read_file(rt, "floor.vtx", vertices);
-    let p = console::read_file(rt, "floor.ply", polygons);
-    let q = console::read_file(rt, "question", question);
+    let v = console::read_file(rt, b"floor.vtx", vertices);
+    let p = console::read_file(rt, b"floor.ply", polygons);
+    let q = console::read_file(rt, b"question", question);
     let r = console::read_input(rt, route);
     console::say(
         rt,

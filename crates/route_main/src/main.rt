@@ -58,8 +58,8 @@ fn find<R: Files + Input + Print + Eprint>(
     question: &mut [u8],
     out: &mut [u8],
 ) {
-    let v = console::read_file(rt, "floor.vtx", vertices);
-    let p = console::read_file(rt, "floor.ply", polygons);
+    let v = console::read_file(rt, b"floor.vtx", vertices);
+    let p = console::read_file(rt, b"floor.ply", polygons);
     let q = console::read_input(rt, question);
     let answer = search_files(&vertices[..v], &polygons[..p], &question[..q], out);
     let told = answer.told();

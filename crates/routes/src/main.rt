@@ -112,7 +112,7 @@ fn stored_of(header: &[u8; 44]) -> Stored {
 
 fn say_name<R: Read>(rt: &impl Print, file: &mut R, n: usize) -> io::Result<()> {
     let mut room = [0u8; MOST_NAME_BYTES];
-    let n = console::read_part(file, n, &mut room)?;
+    let n = console::read_part(file, n, &mut room);
     rt.write_all(&room[..n])?;
     print!(rt; ": ")
 }
@@ -128,10 +128,10 @@ fn read_and_try<R: Read>(
     let mut polygons = console::room_for_polygons();
     let mut question = console::room_for_question();
     let mut route = console::room_for_route();
-    let v = console::read_part(file, parts.vertices, &mut vertices)?;
-    let p = console::read_part(file, parts.polygons, &mut polygons)?;
-    let q = console::read_part(file, parts.question, &mut question)?;
-    let r = console::read_part(file, parts.route, &mut route)?;
+    let v = console::read_part(file, parts.vertices, &mut vertices);
+    let p = console::read_part(file, parts.polygons, &mut polygons);
+    let q = console::read_part(file, parts.question, &mut question);
+    let r = console::read_part(file, parts.route, &mut route);
     try_case(
         rt,
         lent,
