@@ -2,7 +2,7 @@
 // What the programs share: room for each file, a file or standard input read whole into it, a verdict, or a search with no
 // route, said in one line, and standard output that says when it fails.
 
-ghost use Rattle.std.specs.Prelude.{◌≡◌, ◌≤◌, min, length, replicate, IfOk, IsTrue};
+ghost use Rattle.std.specs.Prelude.{◌≡◌, ◌≤◌, min, length, replicate, IfOk, OnErr, IsTrue};
 ghost use Rattle.std.specs.Io.KnownBytes.{Consumes};
 ghost use Rattle.io.specs.Counts.{IsPrefixLen};
 ghost use Rattle.says.specs.Words.{words_of};
@@ -52,7 +52,7 @@ pub fn read_file<R: Files + Eprint>(rt: &R, path: &str, room: &mut [u8]) -> usiz
     match File::open(rt, path) {
         Ok(mut file) => read_whole(rt, &mut file, path, room),
         Err(e) => {
-            fail(rt, path, &e);
+            let _ = fail(rt, path, e);
             0
         }
     }
@@ -78,7 +78,7 @@ fn read_whole<R: Read>(rt: &impl Eprint, from: &mut R, name: &str, room: &mut [u
             n
         }
         Err(e) => {
-            fail(rt, name, &e);
+            let _ = fail(rt, name, e);
             0
         }
     }
@@ -99,9 +99,11 @@ fn read_full<R: Read>(from: &mut R, room: &mut [u8]) -> Result<usize>
     Ok(done)
 }
 
-// Reads the next n bytes to the front of the room, or as many as it has room for, and answers how many were wanted.
+// Reads the next n bytes to the front of the room, or as many as it has room for, and answers how many were wanted. A read that
+// fails is answered as its error, and leaves the room with its length and any bytes.
 pub fn read_part<R: Read>(from: &mut R, n: usize, room: &mut [u8]) -> Result<usize>
-    ensures { IfOk result (λ wanted. IsPrefixLen wanted room.new) }
+    ensures ok { IfOk result (λ wanted. IsPrefixLen wanted room.new) }
+    ensures err { OnErr result (length room.new ≡ length room.old) }
 {
     let n = at_most(n, room.len());
     read_full(from, &mut room[..n])?;
@@ -110,8 +112,9 @@ pub fn read_part<R: Read>(from: &mut R, n: usize, room: &mut [u8]) -> Result<usi
 
 // Reads as many bytes as there is room for: false where fewer are left.
 pub fn fills<R: Read>(from: &mut R, room: &mut [u8]) -> Result<bool>
-    ensures { IfOk result (λ filled. IsTrue filled
+    ensures ok { IfOk result (λ filled. IsTrue filled
         → Consumes (R.remaining from.old) (R.remaining from.new) room.new) }
+    ensures err { OnErr result (length room.new ≡ length room.old) }
 {
     match from.read_exact(room) {
         Ok(()) => Ok(true),
@@ -149,13 +152,16 @@ impl fmt::Display for Ascii<'_> {
     }
 }
 
-// A line on standard error says what failed and why, as "floor.vtx: No such file or directory".
-pub fn fail(rt: &impl Eprint, what: &str, error: &Error) {
+// A line on standard error says what failed and why, as "floor.vtx: No such file or directory". The error is handed back.
+pub fn fail(rt: &impl Eprint, what: &str, error: Error) -> Error
+    ensures { result ≡ error }
+{
     let mut room = [0u8; 256];
     let mut rest = &mut room[..];
     let _ = write!(rest, "{error}");
     let why = Ascii(reason(&room));
     let _ = eprintln!(rt; "{what}: {why}");
+    error
 }
 
 // An error's words without the system's number, which stands behind them, and without the zeros of what is left of the room.
@@ -179,7 +185,7 @@ pub fn write_out<R: Print + Eprint>(rt: &R, bytes: &[u8]) -> usize
     let Err(e) = rt.write_all(bytes) else {
         return bytes.len();
     };
-    fail(rt, "standard output could not be written", &e);
+    let _ = fail(rt, "standard output could not be written", e);
     bytes.len()
 }
 

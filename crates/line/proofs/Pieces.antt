@@ -1,11 +1,11 @@
 -- How pieces make a line: a text put behind another is put with it. Assumes nothing.
-use Prim.Native.Nat.{ℕ, ◌+◌, ◌≤◌}
+use Prim.Native.Nat.{ℕ, ◌+◌, ◌-◌, ◌≤◌}
 use mathlib.Core.Path.{◌≡◌, refl, ap, sym, ◌∙◌}
-use mathlib.Core.List.{List, [], ◌++◌, append_assoc}
+use mathlib.Core.List.{List, [], ◌++◌, append_assoc, append-nil}
 use native.Mathlib.Nat.{add_assoc}
 use native.Mathlib.Omega.{arith}
-use lib.ListN.{length, take, drop, length-append, take-append-drop}
-use lib.Seq.{drop-drop, take_at, drop_at, length-take-le}
+use lib.ListN.{length, take, drop, length-append, length-drop, drop_of_length-le, take-append-drop}
+use lib.Seq.{drop-drop, take-length, take_all, take_at, drop_at, length-take-le}
 use Rattle.io.specs.Counts.{IsPrefixLen}
 use Rattle.says.specs.Words.{laid}
 use Rattle.line.specs.Put.{put_at}
@@ -51,3 +51,14 @@ unfolding put_at laid
 fitting text before {n} put =
     let count : n ≡ length text = omega (arith, put.0) in
     (count, (put.1, (rw put.1 (simp length-append (omega (arith, count))), count ∙ ap length (sym (front_is text before count put.1)))))
+
+-- a piece by way of the part of the room from its place on
+pub put_part : (from : ℕ) (text room : List ℕ) {part : List ℕ} →
+    part ≡ take (length text) text ++ drop (length text) (take (length room - from) (drop from room)) →
+    take from room ++ (part ++ drop (length room - from) (drop from room)) ≡ put_at from text room
+unfolding put_at laid
+put_part from text room e =
+    rw (e, take-length, take_all (length room - from) (drop from room) whole, drop_of_length-le (drop from room) whole, append-nil)
+  where
+    whole : length (drop from room) ≤ length room - from
+    whole = simp length-drop (omega arith)

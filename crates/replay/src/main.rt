@@ -35,10 +35,7 @@ fn main(rt: HostRuntime) -> io::Result<()> {
             let differ = count.differ;
             println!(rt; "{records} answers of the Rust replayed, {differ} differ")
         }
-        Err(e) => {
-            console::fail(&rt, path, &e);
-            Err(e)
-        }
+        Err(e) => Err(console::fail(&rt, path, e)),
     }
 }
 

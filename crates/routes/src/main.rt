@@ -56,10 +56,7 @@ fn main(rt: HostRuntime) -> io::Result<()> {
             let cases = tried_all(&rt, &mut file)?;
             println!(rt; "{cases} cases")
         }
-        Err(e) => {
-            console::fail(&rt, path, &e);
-            Err(e)
-        }
+        Err(e) => Err(console::fail(&rt, path, e)),
     }
 }
 
