@@ -123,6 +123,7 @@ keep_module() { # CRATE
         [ -e "$laid/$path" ] || ln -s "$kit/$path" "$laid/$path"
     done
     PATH=$laid/bin:$PATH prove_libraries "$1"
+    rm -rf "$out/kit"
     [ -f "$out/$1.bc" ] || fail "$kit gave no module of $1"
 }
 
