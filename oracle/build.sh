@@ -110,11 +110,11 @@ build_linked() { # PROGRAM CRATE...
 # The module that a library is compiled from, kept as target/oracle/CRATE.bc: rt hands it to the kit's clang and then takes it away. So the kit's folder is
 # laid once more, all of it by links but for rt, which goes by the folder that it stands in, and for a clang that keeps what it compiles.
 keep_module() { # CRATE
-    local laid=$out/kit kit path
+    local laid=$out/kit/laid kit path
     need_rt
     kit=$(dirname "$(dirname "$(readlink -f "$(command -v rt)")")")
     clang=$kit/toolchain/bin/clang
-    rm -rf "$laid" "$out/$1.bc"
+    rm -rf "$out/kit" "$out/$1.bc"
     mkdir -p "$laid/bin" "$laid/toolchain/bin"
     cp "$kit/bin/rt" "$kit/bin/rtlib.py" "$laid/bin/"
     printf '%s\n' '#!/bin/sh' "cp module.bc '$out/$1.bc'" "exec '$clang' \"\$@\"" >"$laid/toolchain/bin/clang"
@@ -123,6 +123,7 @@ keep_module() { # CRATE
         [ -e "$laid/$path" ] || ln -s "$kit/$path" "$laid/$path"
     done
     PATH=$laid/bin:$PATH prove_libraries "$1"
+    rm -rf "$out/kit"
     [ -f "$out/$1.bc" ] || fail "$kit gave no module of $1"
 }
 
