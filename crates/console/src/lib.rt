@@ -49,18 +49,10 @@ pub fn room_for_route() -> [u8; 131105]
 pub fn read_file<R: Files + Eprint>(rt: &R, path: &[u8], room: &mut [u8]) -> usize
     ensures { IsPrefixLen result room.new }
 {
-    match str::from_utf8(path) {
-        Ok(path) => read_named(rt, path, room),
-        Err(_) => {
-            let _ = eprintln!(rt; "a file whose name is no text cannot be read");
-            0
-        }
-    }
-}
-
-fn read_named<R: Files + Eprint>(rt: &R, path: &str, room: &mut [u8]) -> usize
-    ensures { IsPrefixLen result room.new }
-{
+    let Ok(path) = str::from_utf8(path) else {
+        let _ = eprintln!(rt; "a file whose name is no text cannot be read");
+        return 0;
+    };
     match File::open(rt, path) {
         Ok(mut file) => read_whole(rt, &mut file, path, room),
         Err(e) => {
