@@ -1,11 +1,10 @@
 -- A search that never stalls is document 01's, to the word, and leaves the table as it was lent; and no search stalls before its 514th pop. Rests on
 -- specs/Search and specs/Before. Assumes nothing.
-use Prim.Native.Nat.{ℕ, zero, suc, ◌+◌}
+use Prim.Native.Nat.{ℕ, zero, suc}
 use mathlib.Core.Path.{◌≡◌, refl, sym, ap, ◌∙◌}
 use mathlib.Core.Bool.{Bool, true, false, cond}
 use mathlib.Core.List.{List}
-use lib.Dec.{eqb, ltb}
-use lib.Ieee.{Float, lt}
+use lib.Dec.{eqb}
 use Rattle.stored.specs.Stored.{Floor}
 use Rattle.steps.specs.declared.Node.{Node}
 use Rattle.queue.specs.Queue.{none}
@@ -19,22 +18,9 @@ use Rattle.machine.specs.declared.Finish.TheVariants.{Emptied, Filled, Stopped}
 use Rattle.machine.specs.declared.Outcome.{Outcome}
 use Rattle.machine.specs.declared.Outcome.TheVariants.{Goes, Ends}
 use Rattle.machine.specs.Search.{State, Stepping, stepping, ending, Searching, searching, Turn, turning, closing, rest_of, rest_in, is_beaten}
-use Rattle.machine.specs.Search.{pursued, popped, outset, patience, calm, noticed, table_after, watched, met, visited, step, onwards, run, searched_from}
+use Rattle.machine.specs.Search.{pursued, popped, outset, calm, noticed, table_after, watched, met, visited, step, onwards, run, searched_from}
 use Rattle.machine.specs.Before.{visited_before, step_before, onwards_before, run_before, searched_before}
-
--- ---- recording never ends
-
-noticed_before : (s : Stall) (value : Float) → (noticed s value).recording ≡ false → s.recording ≡ false
-unfolding noticed
-noticed_before s value = go s.recording refl
-  where
-    other : Stall
-    other = cond (lt s.last_f value) (record { last_f = value; count = 0; recording = false })
-        (record { last_f = s.last_f; count = s.count + 1; recording = ltb patience (s.count + 1) })
-
-    go : (a : Bool) → s.recording ≡ a → (cond a s other).recording ≡ false → s.recording ≡ false
-    go true x e = e
-    go false x e = x
+use Rattle.machine.proofs.Recording.{noticed_before}
 
 table_stays : (before after : Stall) (table : List ℕ) → before.recording ≡ false → after.recording ≡ false → table_after before after table ≡ table
 unfolding table_after

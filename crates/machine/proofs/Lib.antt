@@ -5,6 +5,7 @@ pub mod Counting
 pub mod Numbers
 pub mod Kept
 pub mod Turning
+pub mod Recording
 pub mod Calm
 pub mod Begun
 pub mod Patience

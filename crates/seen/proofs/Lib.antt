@@ -4,4 +4,6 @@ pub mod Scan
 pub mod Entries
 pub mod Holding
 pub mod Remembering
+pub mod Found
+pub mod LookedUp
 pub mod Examples

@@ -7,10 +7,9 @@ use Rattle.counts.proofs.Laws.{every_at, some_true, some_at, first_is, first_bel
 use Rattle.queue.specs.Queue.{none}
 use Rattle.steps.specs.declared.Node.{Node}
 use Rattle.seen.specs.declared.Entry.TheVariants.{New, Seen, NoRoom}
-use Rattle.seen.specs.declared.Spot.{Spot}
 use Rattle.seen.specs.declared.Spot.TheVariants.{Held, Free, Nowhere}
-use Rattle.seen.specs.Table.{words_per_entry, key_of, entries_in, is_used, holds, slot_at, stops, spot_at, found_in, entry_put, laid_out}
-use Rattle.seen.specs.Table.{is_seen, is_full, free_slot, entered, Remembered, remembered_of, remembered}
+use Rattle.seen.specs.Table.{words_per_entry, key_of, entries_in, is_used, holds, slot_at, stops, spot_at, found_in, laid_out}
+use Rattle.seen.specs.Table.{is_seen, is_full, free_slot, entered, remembered_of, remembered}
 use Rattle.seen.specs.Kept.{IsKey, Kept, laid, more, Records}
 use Rattle.seen.proofs.Slots.{slot_below, slot_every}
 use Rattle.seen.proofs.Scan.{entries_room, row_inside}
@@ -79,7 +78,7 @@ module _ (table key : List ℕ) where
   found_inside j e = row_inside (entries_in table) j table (entries_room table) (spot_below table key (entries_in table) stop_at j (sym found_at ∙ e))
 
   -- a key that was entered is come to before an unused entry
-  found_held : {keys : List (List ℕ)} → Kept keys table → IsKey key → is_seen table key ≡ true → found_in table key (entries_in table) ≡ Held
+  pub found_held : {keys : List (List ℕ)} → Kept keys table → IsKey key → is_seen table key ≡ true → found_in table key (entries_in table) ≡ Held
   unfolding is_seen
   found_held k isk e = go (some_at _ _ e)
     where
@@ -105,7 +104,7 @@ module _ (table key : List ℕ) where
     stops_unused i l = stops_unheld table key _ (unheld _ (slot_below (entries_in table) key i (omega arith)))
 
     -- a new one stops at the first unused entry
-    found_free : is_full table ≡ false → found_in table key (entries_in table) ≡ Free (free_slot table key)
+    pub found_free : is_full table ≡ false → found_in table key (entries_in table) ≡ Free (free_slot table key)
     unfolding free_slot
     found_free room =
         let e : stop_at ≡ first (entries_in table) (λ i. not (is_used table (slot_at (entries_in table) key i)))
@@ -113,52 +112,13 @@ module _ (table key : List ℕ) where
         found_at ∙ rw e (spot_free table key (entries_in table) _ (free_found table key room) (free_unused table key room))
 
     -- and goes round where there is none
-    found_nowhere : is_full table ≡ true → found_in table key (entries_in table) ≡ Nowhere
+    pub found_nowhere : is_full table ≡ true → found_in table key (entries_in table) ≡ Nowhere
     unfolding is_full
     found_nowhere full =
         let e : stop_at ≡ entries_in table = first_is (entries_in table) stops_at (entries_in table) (omega arith)
         (λ i l. rw (stops_unused i l, every_at (entries_in table) (is_used table) full _ (slot_below (entries_in table) key i (omega arith))))
         (λ l. absurd (omega arith)) in
         found_at ∙ spot_nowhere table key (entries_in table) stop_at (omega arith)
-
--- ---- what comes of it
-
--- what is answered and stored at each end of looking
-unfoldable pub by_spot : List ℕ → List ℕ → Spot → Remembered
-by_spot table key Held = remembered_of Seen table
-by_spot table key (Free j) = remembered_of New (entry_put table j key)
-by_spot table key Nowhere = remembered_of NoRoom table
-
--- where looking stops tells what a recording search asks
-pub found_tells : {keys : List (List ℕ)} (table key : List ℕ) → Kept keys table → IsKey key
-    → by_spot table key (found_in table key (entries_in table)) ≡ remembered true table key
-unfolding by_spot entered remembered
-found_tells table key k isk = go (is_seen table key) refl (is_full table) refl
-  where
-    go : (a : Bool) → is_seen table key ≡ a → (b : Bool) → is_full table ≡ b
-        → by_spot table key (found_in table key (entries_in table))
-        ≡ cond (is_seen table key) (remembered_of Seen table) (cond (is_full table) (remembered_of NoRoom table) (remembered_of New (entered table key)))
-    go true p b q = rw (found_held table key k isk p, p)
-    go false p true q = rw (found_nowhere table key p q, p, q)
-    go false p false q = rw (found_free table key p q, p, q)
-
--- the same as it stands in the code: the key is the node's, and the search records
-module _ (recording : Bool) (table key own : List ℕ) (spot : Spot) (d : recording ≡ true) (r : recording ≡ true → Records table) (isk : IsKey own)
-    (e : key ≡ own) (s : spot ≡ found_in table key (entries_in table)) where
-  looked_up : by_spot table key spot ≡ remembered recording table own
-  looked_up = rw (d, s, e) (found_tells table own (r d).kept isk)
-
-  pub looked_held : spot ≡ Held → remembered_of Seen table ≡ remembered recording table own
-  unfolding by_spot
-  looked_held h = rw h at looked_up
-
-  pub looked_free : (j : ℕ) → spot ≡ Free j → (after : List ℕ) → after ≡ entry_put table j key → remembered_of New after ≡ remembered recording table own
-  unfolding by_spot
-  looked_free j h after a = rw a (rw h at looked_up)
-
-  pub looked_nowhere : spot ≡ Nowhere → remembered_of NoRoom table ≡ remembered recording table own
-  unfolding by_spot
-  looked_nowhere h = rw h at looked_up
 
 -- ---- the table then
 

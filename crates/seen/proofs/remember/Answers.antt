@@ -1,7 +1,8 @@
 -- `seen::remember` meets its contract: where looking up stops tells whether the node was seen, and whether there is room. Assumes nothing.
 use Rattle.std.proofs.Common.{sym, ◌∙◌}
 use Rattle.seen.proofs.Scan.{is_true}
-use Rattle.seen.proofs.Remembering.{found_inside, looked_held, looked_free, looked_nowhere}
+use Rattle.seen.proofs.Remembering.{found_inside}
+use Rattle.seen.proofs.LookedUp.{looked_held, looked_free, looked_nowhere}
 use Rattle.seen.proofs.remember.Goals as goal
 
 pub put_entry-requires : goal.put_entry-requires
