@@ -41,7 +41,7 @@ pub fn cart_judge(
     ensures fault_after { let verdict = verdict_of 8 vertices.now polygons.now question.now route.now in
         fault.new ≡ record_written (at_of (verdict_record verdict)) fault.old }
 {
-    let told = judge::judge(vertices, polygons, question, route).told();
+    let told = judge::told(judge::judge(vertices, polygons, question, route));
     put(fault, told);
     told.number()
 }
@@ -65,7 +65,7 @@ pub fn cart_read_out(
         let readout = readout_of 8 vertices.now polygons.now question.now route.now before in
         value.new ≡ value_written (readout_values readout) value.old }
 {
-    let told = readout::read_out(vertices, polygons, question, route, points).told();
+    let told = readout::told(readout::read_out(vertices, polygons, question, route, points));
     put(value, told);
     told.number()
 }
@@ -102,7 +102,7 @@ pub fn cart_search(
         vertices, polygons, question, budget, floats, words, tree, table, out,
     );
     *steps = answer.steps();
-    let told = answer.told();
+    let told = Told::from(answer);
     put(value, told);
     told.number()
 }

@@ -3,15 +3,13 @@ use Prim.Native.Nat.{ℕ}
 use mathlib.Core.Path.{◌≡◌, refl}
 use mathlib.Core.Bool.{true, false}
 use lib.Ieee.{add, sub, mul, div, neg, lt, of_bits, odd, size, round}
+use Rattle.std.specs.Prelude.{Option, Some, None}
 use Rattle.float.specs.Units.{units_of}
 use Rattle.root.specs.Root.{root_of, rounded_root, dropped, nearest_root, whole_root}
 use Rattle.point.specs.declared.Point.{Point}
 use Rattle.point.specs.declared.Segment.{Segment}
 use Rattle.point.specs.Numbers.{0', -0', 1', 2', 3', -3'}
 use Rattle.point.specs.Point.{zero, one, point_of, from_bits_of, minus_of, plus_of, times_of, dot_of, perp_dot_of, length_of, distance_squared_of}
-use Rattle.cone.specs.declared.Cut.TheVariants.{Kept}
-use Rattle.cone.specs.declared.Clipped.{Clipped}
-use Rattle.cone.specs.declared.Clipped.TheVariants.{Seen, Nothing}
 use Rattle.cone.specs.Cone.{ray_of, cone_of, has_short_ray_of, from_right_of, from_left_of, both_outside_of, fraction_of, raised_of, lowered_of, cut_of}
 use Rattle.cone.specs.Cone.{part_inside_of, part_of, clip_of, clip_to_cone_of}
 use Rattle.cone.specs.Landing.{lands_on_of}
@@ -34,28 +32,28 @@ origin = from_bits_of 0' 0'
 
 -- ---- the clip, root (0,0), cone (1,0),(0,1)
 
-unfoldable pub clipped : Segment → Clipped
+unfoldable pub clipped : Segment → Option Segment
 unfolding clip_to_cone_of clip_of cone_of ray_of has_short_ray_of from_right_of from_left_of both_outside_of fraction_of raised_of lowered_of cut_of part_inside_of part_of
     point_of from_bits_of minus_of plus_of times_of dot_of perp_dot_of length_of root_of rounded_root dropped nearest_root whole_root units_of add sub mul div neg lt
     of_bits odd size
 clipped segment = clip_to_cone_of origin (line 1' 0' 0' 1') segment
 
 -- 01, Fixed examples: "(2,−3),(3,−3) none"
-pub wholly_below : clipped (line 2' -3' 3' -3') ≡ Nothing
+pub wholly_below : clipped (line 2' -3' 3' -3') ≡ None
 unfolding clipped
 wholly_below = refl
 
 -- 01, Easy to get wrong: "Returning segment.1 itself for hi = 1." All of (1,1),(0.1,1) is inside, and yet its end is not 0.1.
-pub whole_inside : part_inside_of (cone_of origin (line 1' 0' 0' 1')) (line 1' 1' tenth 1') ≡ Kept (record { lo = zero; hi = one })
+pub whole_inside : part_inside_of (cone_of origin (line 1' 0' 0' 1')) (line 1' 1' tenth 1') ≡ Some (record { lo = zero; hi = one })
 unfolding clipped
 whole_inside = refl
 
-pub even_at_one : clipped (line 1' 1' tenth 1') ≡ Seen (line 1' 1' above_tenth 1')
+pub even_at_one : clipped (line 1' 1' tenth 1') ≡ Some (line 1' 1' above_tenth 1')
 unfolding clipped
 even_at_one = refl
 
 -- A start at -0.0 comes back at 0.0.
-pub even_at_zero : clipped (line -0' 1' 1' 1') ≡ Seen (line 0' 1' 1' 1')
+pub even_at_zero : clipped (line -0' 1' 1' 1') ≡ Some (line 0' 1' 1' 1')
 unfolding clipped
 even_at_zero = refl
 

@@ -1,5 +1,4 @@
--- What belongs to no one function: the cases that an arm leads to, the laws of the clip and of landing, and examples.
-pub mod Cases
+-- What belongs to no one function: the laws of the clip and of landing, and examples.
 pub mod Clip
 pub mod Landing
 pub mod Examples

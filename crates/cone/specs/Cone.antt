@@ -1,7 +1,7 @@
 -- The clip to a cone, as document 01 has it under "Geometry", in the order of polyanya's `clip_to_cone` (src/instance.rs). Rests on the definitions of
 -- `point`. Assumes nothing. Each definition is what the contract of the function of that name says, with `Of` behind it. A comment in quotes is 01's
 -- sentence.
-use Rattle.std.specs.Prelude.{Bool, cond, ◌&&◌, ◌||◌, Float}
+use Rattle.std.specs.Prelude.{Bool, cond, ◌&&◌, ◌||◌, Option, Some, None, Float}
 use Rattle.std.specs.Float.{binary32}
 use Rattle.std.specs.Float.Ieee.{add, sub, div, neg, lt}
 use Rattle.point.specs.declared.Point.{Point}
@@ -10,10 +10,6 @@ use Rattle.point.specs.Point.{zero, one, slack, minus_of, plus_of, times_of, per
 use Rattle.cone.specs.declared.Ray.{Ray}
 use Rattle.cone.specs.declared.Cone.{Cone}
 use Rattle.cone.specs.declared.Part.{Part}
-use Rattle.cone.specs.declared.Cut.{Cut}
-use Rattle.cone.specs.declared.Cut.TheVariants.{Kept, Away}
-use Rattle.cone.specs.declared.Clipped.{Clipped}
-use Rattle.cone.specs.declared.Clipped.TheVariants.{Seen, Nothing}
 
 -- ---- the cone
 
@@ -59,27 +55,27 @@ unfoldable pub both_outside_of : Float → Float → Bool
 both_outside_of start end = lt start zero && lt end zero
 
 -- else lo moves to where a segment that starts outside comes in, or hi to where one that ends outside goes out
-unfoldable pub cut_of : Part → Float → Float → Cut
+unfoldable pub cut_of : Part → Float → Float → Option Part
 cut_of part start end =
     let fraction = fraction_of start end in
-    cond (both_outside_of start end) Away
-    (cond (lt start zero) (Kept (record { lo = raised_of part.lo fraction; hi = part.hi }))
-    (cond (lt end zero) (Kept (record { lo = part.lo; hi = lowered_of part.hi fraction }))
-    (Kept part)))
+    cond (both_outside_of start end) None
+    (cond (lt start zero) (Some (record { lo = raised_of part.lo fraction; hi = part.hi }))
+    (cond (lt end zero) (Some (record { lo = part.lo; hi = lowered_of part.hi fraction }))
+    (Some part)))
 
 -- ---- the clip
 
 -- what follows where a part is left, and where none is
-abbrev pub if_kept : {A : Type 0} → Cut → (Part → A) → A → A
-if_kept (Kept part) then else = then part
-if_kept Away then else = else
+abbrev pub if_kept : {A : Type 0} → Option Part → (Part → A) → A → A
+if_kept (Some part) then else = then part
+if_kept None then else = else
 
 -- from 0 to 1, by the right ray and then by the left ray
-unfoldable pub part_inside_of : Cone → Segment → Cut
+unfoldable pub part_inside_of : Cone → Segment → Option Part
 part_inside_of cone segment =
     if_kept (cut_of (record { lo = zero; hi = one }) (from_right_of cone segment.0) (from_right_of cone segment.1))
     (λ part. cut_of part (from_left_of cone segment.0) (from_left_of cone segment.1))
-    Away
+    None
 
 -- "Else segment.0 plus the difference times lo and times hi, even at 0 and 1."
 unfoldable pub part_of : Part → Segment → Segment
@@ -88,13 +84,13 @@ part_of part segment =
     (plus_of segment.0 (times_of along part.lo), plus_of segment.0 (times_of along part.hi))
 
 -- ".. or lo > hi, gives none."
-unfoldable pub clip_of : Cone → Segment → Clipped
+unfoldable pub clip_of : Cone → Segment → Option Segment
 clip_of cone segment =
-    cond (has_short_ray_of cone) (Seen segment)
+    cond (has_short_ray_of cone) (Some segment)
     (if_kept (part_inside_of cone segment)
-    (λ part. cond (lt part.hi part.lo) Nothing (Seen (part_of part segment)))
-    Nothing)
+    (λ part. cond (lt part.hi part.lo) None (Some (part_of part segment)))
+    None)
 
 -- the same, with the cone made for this one segment
-unfoldable pub clip_to_cone_of : Point → Segment → Segment → Clipped
+unfoldable pub clip_to_cone_of : Point → Segment → Segment → Option Segment
 clip_to_cone_of root cone segment = clip_of (cone_of root cone) segment

@@ -3,18 +3,11 @@
 // interval, and whether an interval's end is a vertex.
 
 ghost use Rattle.std.specs.Prelude.{◌≡◌};
-ghost use Rattle.cone.specs.Cone.{ray_of, cone_of, has_short_ray_of, from_right_of, from_left_of, both_outside_of, fraction_of, raised_of, lowered_of, cut_of};
+ghost use Rattle.cone.specs.Cone.{ray_of, cone_of, has_short_ray_of, from_right_of, from_left_of, both_outside_of, fraction_of, cut_of};
 ghost use Rattle.cone.specs.Cone.{part_inside_of, part_of, clip_of, clip_to_cone_of};
 ghost use Rattle.cone.specs.Landing.{lands_on_of};
 
 use point::{Point, Segment};
-
-// What is seen of a segment.
-#[derive(Clone, Copy)]
-pub enum Clipped {
-    Seen(Segment),
-    Nothing,
-}
 
 // The way from a root to an end of its interval. Its length is worked out once.
 #[derive(Clone, Copy)]
@@ -37,13 +30,6 @@ pub struct Cone {
 struct Part {
     lo: f32,
     hi: f32,
-}
-
-// What a ray leaves of a part.
-#[derive(Clone, Copy)]
-enum Cut {
-    Kept(Part),
-    Away,
 }
 
 impl Ray {
@@ -98,57 +84,50 @@ impl Cone {
 
     // What the right ray and then the left ray leave of a segment.
     #[tactic(auto, unfolding(crate::specs::Cone::part_inside_of))]
-    fn part_inside(self, segment: Segment) -> Cut
+    fn part_inside(self, segment: Segment) -> Option<Part>
         ensures { result ≡ part_inside_of self segment }
     {
         let whole = Part { lo: 0.0, hi: 1.0 };
-        let by_right = whole.cut(self.from_right(segment.0), self.from_right(segment.1));
-        match by_right {
-            Cut::Kept(part) => part.cut(self.from_left(segment.0), self.from_left(segment.1)),
-            Cut::Away => Cut::Away,
-        }
+        let part = whole.cut(self.from_right(segment.0), self.from_right(segment.1))?;
+        part.cut(self.from_left(segment.0), self.from_left(segment.1))
     }
 
     // Narrows a segment to the part of it that lies in the cone. Where a ray is too short there is no cone, and the segment
-    // comes back as it is.
+    // comes back as it is. None where nothing of it is seen.
     #[tactic(auto, unfolding(crate::specs::Cone::clip_of))]
-    pub fn clip(self, segment: Segment) -> Clipped
+    pub fn clip(self, segment: Segment) -> Option<Segment>
         ensures { result ≡ clip_of self segment }
     {
         if self.has_short_ray() {
-            return Clipped::Seen(segment);
+            return Some(segment);
         }
-        let inside = self.part_inside(segment);
-        match inside {
-            Cut::Kept(part) => {
-                if part.lo > part.hi {
-                    return Clipped::Nothing;
-                }
-                Clipped::Seen(part.of(segment))
-            }
-            Cut::Away => Clipped::Nothing,
+        let part = self.part_inside(segment)?;
+        if part.lo > part.hi {
+            return None;
         }
+        Some(part.of(segment))
     }
 }
 
 impl Part {
-    // What a ray leaves of the part, where the segment's start and end sit so far inside it.
-    #[tactic(auto, unfolding(crate::specs::Cone::cut_of))]
-    fn cut(self, start: f32, end: f32) -> Cut
+    // What a ray leaves of the part, where the segment's start and end sit so far inside it. lo moves up to a fraction above it, hi down
+    // to one below it; a NaN moves neither, and a zero of the other sign does not move lo.
+    #[tactic(auto, unfolding(crate::specs::Cone::cut_of, crate::specs::Cone::raised_of, crate::specs::Cone::lowered_of, point::specs::Sides::max_of, point::specs::Sides::min_of))]
+    fn cut(self, start: f32, end: f32) -> Option<Part>
         ensures { result ≡ cut_of self start end }
     {
         if both_outside(start, end) {
-            return Cut::Away;
+            return None;
         }
         if start < 0.0 {
-            let lo = raised(self.lo, fraction(start, end));
-            return Cut::Kept(Part { lo, hi: self.hi });
+            let lo = point::max(fraction(start, end), self.lo);
+            return Some(Part { lo, hi: self.hi });
         }
         if end < 0.0 {
-            let hi = lowered(self.hi, fraction(start, end));
-            return Cut::Kept(Part { lo: self.lo, hi });
+            let hi = point::min(fraction(start, end), self.hi);
+            return Some(Part { lo: self.lo, hi });
         }
-        Cut::Kept(self)
+        Some(self)
     }
 
     // The part's own ends. They are worked out even at 0 and 1: what comes out at 1 need not be segment.1.
@@ -181,32 +160,10 @@ fn fraction(start: f32, end: f32) -> f32
     start / (start - end)
 }
 
-// lo moves up to a fraction above it. A NaN does not move it, and neither does a zero of the other sign.
-#[tactic(auto, unfolding(crate::specs::Cone::raised_of))]
-fn raised(lo: f32, fraction: f32) -> f32
-    ensures { result ≡ raised_of lo fraction }
-{
-    if fraction > lo {
-        return fraction;
-    }
-    lo
-}
-
-// hi moves down to a fraction below it. A NaN does not move it.
-#[tactic(auto, unfolding(crate::specs::Cone::lowered_of))]
-fn lowered(hi: f32, fraction: f32) -> f32
-    ensures { result ≡ lowered_of hi fraction }
-{
-    if fraction < hi {
-        return fraction;
-    }
-    hi
-}
-
 // Narrows a successor's interval to the part of it that its parent could actually see: a successor that keeps its parent's
 // root sees through the parent's wedge. Whoever has many segments for one cone keeps a Cone.
 #[tactic(auto, unfolding(crate::specs::Cone::clip_to_cone_of))]
-pub fn clip_to_cone(root: Point, cone: Segment, segment: Segment) -> Clipped
+pub fn clip_to_cone(root: Point, cone: Segment, segment: Segment) -> Option<Segment>
     ensures { result ≡ clip_to_cone_of root cone segment }
 {
     Cone::new(root, cone).clip(segment)

@@ -1,20 +1,18 @@
 -- The numbers of the clip's answer, and what is written for it, where C calls it. Rests on the definitions of `cone`. Assumes nothing.
-use Rattle.std.specs.Prelude.{ℕ, List, [], ◌∷◌}
+use Rattle.std.specs.Prelude.{ℕ, Option, Some, None, List, [], ◌∷◌}
 use Rattle.std.specs.Float.{binary32}
 use Rattle.std.specs.Float.Ieee.{to_bits}
 use Rattle.point.specs.declared.Segment.{Segment}
-use Rattle.cone.specs.declared.Clipped.{Clipped}
-use Rattle.cone.specs.declared.Clipped.TheVariants.{Seen, Nothing}
 
-unfoldable pub clipped_number : Clipped → ℕ
-clipped_number (Seen s) = 1
-clipped_number Nothing = 0
+unfoldable pub clipped_number : Option Segment → ℕ
+clipped_number (Some s) = 1
+clipped_number None = 0
 
 -- a segment is four bit patterns, its start's x and y and then its end's
 unfoldable pub segment_bits : Segment → List ℕ
 segment_bits s = to_bits binary32 s.0.x ∷ to_bits binary32 s.0.y ∷ to_bits binary32 s.1.x ∷ to_bits binary32 s.1.y ∷ []
 
 -- the segment, or what stood there
-unfoldable pub clipped_written : Clipped → List ℕ → List ℕ
-clipped_written (Seen s) before = segment_bits s
-clipped_written Nothing before = before
+unfoldable pub clipped_written : Option Segment → List ℕ → List ℕ
+clipped_written (Some s) before = segment_bits s
+clipped_written None before = before

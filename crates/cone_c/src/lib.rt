@@ -8,7 +8,6 @@ ghost use Rattle.cone.specs.Landing.{lands_on_of};
 ghost use Rattle.patterns.specs.Patterns.{segment_of, truth_number};
 ghost use Rattle.cone_c.specs.Clip.{segment_bits, clipped_number, clipped_written};
 
-use cone::Clipped;
 use patterns::{segment, truth_number};
 use point::{Point, Segment};
 
@@ -51,11 +50,11 @@ pub fn geometry_clip_to_cone(
         segment(s0x, s0y, s1x, s1y),
     );
     match clipped {
-        Clipped::Seen(seen) => {
+        Some(seen) => {
             put_segment(out, seen);
             1
         }
-        Clipped::Nothing => 0,
+        None => 0,
     }
 }
 

@@ -14,34 +14,30 @@ use std::io::{Error, ErrorKind, Read, Result, Write};
 use std::rt::Files;
 use told::Told;
 
-// Room for each file: a byte more than the longest that is allowed, so that a file that is too long has a wrong length here
-// too. The length is said beside the zeros, since lending an array as a slice asks for it.
-pub fn room_for_vertices() -> [u8; 8193]
-    ensures value { result ≡ replicate 8193 0 }
-    ensures len { 8193 ≡ length result }
+// How long the room for each file is: a byte more than the longest that is allowed (proofs/Rooms), so that a file that is too long
+// has a wrong length here too.
+pub const VERTICES: usize = 8193;
+
+pub const POLYGONS: usize = 32769;
+
+pub const QUESTION: usize = 17;
+
+pub const ROUTE: usize = 131105;
+
+// Room full of one value. The length is said beside it, since lending an array as a slice asks for it.
+pub fn room_of<T: Copy, const N: usize>(fill: T) -> [T; N]
+    ensures value { result ≡ replicate N fill }
+    ensures len { N ≡ length result }
 {
-    [0; 8193]
+    [fill; N]
 }
 
-pub fn room_for_polygons() -> [u8; 32769]
-    ensures value { result ≡ replicate 32769 0 }
-    ensures len { 32769 ≡ length result }
+// Room full of zeros.
+pub fn room<const N: usize>() -> [u8; N]
+    ensures value { result ≡ replicate N 0 }
+    ensures len { N ≡ length result }
 {
-    [0; 32769]
-}
-
-pub fn room_for_question() -> [u8; 17]
-    ensures value { result ≡ replicate 17 0 }
-    ensures len { 17 ≡ length result }
-{
-    [0; 17]
-}
-
-pub fn room_for_route() -> [u8; 131105]
-    ensures value { result ≡ replicate 131105 0 }
-    ensures len { 131105 ≡ length result }
-{
-    [0; 131105]
+    room_of(0)
 }
 
 // Reads the file to the front of the room and answers how many bytes it has: none where it cannot be opened or read. A file
@@ -105,9 +101,10 @@ fn read_full<R: Read>(from: &mut R, room: &mut [u8]) -> Result<usize>
 
 // Reads the next n bytes to the front of the room, or as many as it has room for, and answers how many were wanted.
 pub fn read_part<R: Read>(from: &mut R, n: usize, room: &mut [u8]) -> usize
-    ensures { IsPrefixLen result room.new }
+    ensures value { result ≡ min n (length room.new) }
+    ensures prefix_len { IsPrefixLen result room.new }
 {
-    let n = at_most(n, room.len());
+    let n = n.min(room.len());
     let _ = read_full(from, &mut room[..n]);
     n
 }
@@ -128,17 +125,6 @@ pub fn fills<R: Read>(from: &mut R, room: &mut [u8]) -> Result<bool>
             }
         }
     }
-}
-
-// A number, or the most that is allowed if it is more.
-pub fn at_most(n: usize, most: usize) -> usize
-    ensures value { result ≡ min n most }
-    ensures upper_bound { result ≤ most }
-{
-    if n <= most {
-        return n;
-    }
-    most
 }
 
 // Bytes of ASCII, as text to print.

@@ -10,7 +10,9 @@ use borrow.Author.Tests.{ltb-true, ltb-false, lt-ltb, le-ltb}
 use lib.Dec.{T, ltb}
 use lib.ListN.{length, get_or, length-append, get_or-append}
 use lib.Seq.{get_or-append_seam}
-use Rattle.counts.specs.Counts.{every, some, first, table}
+use Rattle.std.specs.Prelude.{Some, None}
+use Rattle.std.proofs.lemmas.Option.{cond_some, none-some}
+use Rattle.counts.specs.Counts.{every, some, first, below, table}
 
 -- ---- the numbers below suc n are those below n, and n
 
@@ -163,6 +165,26 @@ first_below n f k l e = go (dec_lt k (first n f))
     go : Dec (k < first n f) → first n f ≤ k
     go (yes h) = absurd (subst (λ (b : Bool). T (not b)) (sym (first_before n f k h) ∙ e) tt)
     go (no h) = omega arith
+
+-- ---- the one found, or none
+
+pub below_is : (n k : ℕ) → k < n → below n k ≡ Some k
+below_is n k l = rw (lt-ltb k n l)
+
+pub below_ends : (n k : ℕ) → n ≤ k → below n k ≡ None
+below_ends n k l = rw (le-ltb k n l)
+
+pub below_some : (n k : ℕ) {x : ℕ} → below n k ≡ Some x → (k ≡ x) × (x < n)
+below_some n k {x} e =
+    let t = cond_some (ltb k n) k x e in
+    (t.1, subst (λ (v : ℕ). v < n) t.1 (ltb-true k n t.0))
+
+pub below_none : (n k : ℕ) → below n k ≡ None → n ≤ k
+below_none n k e = go (ltb k n) refl e
+  where
+    go : (b : Bool) → ltb k n ≡ b → cond b (Some k) None ≡ None → n ≤ k
+    go true t e = absurd (none-some k (sym e))
+    go false t e = ltb-false k n t
 
 -- ---- table
 

@@ -1,6 +1,7 @@
 -- What holds of every number below n, of some, of how many, which is the first, and the list of what a function gives at each; and what it says to be the
 -- lowest at fault, or the least of which something holds. Definitions only. Assumes nothing.
 use Rattle.std.specs.Prelude.{ℕ, zero, suc, ◌≤◌, ◌<◌, ◌≡◌, Bool, true, false, ◌&&◌, ◌||◌, cond, List, [], ◌∷◌, ◌++◌, ◌↔◌, ltb}
+use Rattle.std.specs.Prelude.{Option, Some, None}
 
 unfoldable pub every : ℕ → (ℕ → Bool) → Bool
 every zero f = true
@@ -14,6 +15,10 @@ some (suc n) f = some n f || f n
 unfoldable pub first : ℕ → (ℕ → Bool) → ℕ
 first zero f = 0
 first (suc n) f = cond (ltb (first n f) n) (first n f) (cond (f n) n (suc n))
+
+-- the one that was found, or none where the search came to the end
+abbrev pub below : ℕ → ℕ → Option ℕ
+below n k = cond (ltb k n) (Some k) None
 
 -- the number of those below n at which f is true
 unfoldable pub tally : ℕ → (ℕ → Bool) → ℕ

@@ -1,14 +1,12 @@
 -- The cuts of one edge, as document 01 has them under "The walk" and edges_between of polyanya's src/instance.rs has them in its lines, which stand above what
 -- renders them. Rests on the definitions of `point` and `helpers`. Assumes nothing.
 -- The kinds are the Rust's `SuccessorType`. The contract of a function cites the definition of its name with `Of` behind it; `nowhere_of` is for `Cut::nowhere`.
-use Rattle.std.specs.Prelude.{Bool, cond, ◌&&◌}
+use Rattle.std.specs.Prelude.{Bool, cond, ◌&&◌, Option, Some, None}
 use Rattle.std.specs.Float.Ieee.{lt}
 use Rattle.point.specs.declared.Point.{Point}
 use Rattle.point.specs.declared.Segment.{Segment}
 use Rattle.point.specs.declared.EdgeSide.{EdgeSide}
 use Rattle.point.specs.declared.EdgeSide.TheVariants.{Left, Right, Edge}
-use Rattle.helpers.specs.declared.Crossing.{Crossing}
-use Rattle.helpers.specs.declared.Crossing.TheVariants.{At, Nowhere}
 use Rattle.point.specs.Point.{apart, distance_squared_of}
 use Rattle.point.specs.Sides.{side_of}
 use Rattle.helpers.specs.Helpers.{line_intersect_segment_of}
@@ -27,15 +25,15 @@ unfoldable pub apart_from_both_of : Point → Segment → Bool
 apart_from_both_of cut edge = told_apart_of cut edge.0 && told_apart_of cut edge.1
 
 -- a cut that counts makes an interval
-unfoldable pub cut_if_of : Bool → Point → Crossing
-cut_if_of counts cut = cond counts (At cut) Nowhere
+unfoldable pub cut_if_of : Bool → Point → Option Point
+cut_if_of counts cut = cond counts (Some cut) None
 
 unfoldable pub seen_if_of : Bool → SuccessorType → SuccessorType
 seen_if_of past kind = cond past Observable kind
 
 -- no cut, and this kind
 unfoldable pub nowhere_of : SuccessorType → Cut
-nowhere_of kind = record { at = Nowhere; kind = kind }
+nowhere_of kind = record { at = None; kind = kind }
 
 -- ---- the first cut, by the right ray
 
@@ -65,7 +63,7 @@ unless_right_of Edge then kind = then
 unfoldable pub first_cut_of : Segment → Segment → SuccessorType → Cut
 first_cut_of right edge kind =
     elim (side_of edge.0 right) [
-      | Right ↦ elim (line_intersect_segment_of right edge) [ At intersect ↦ first_crossing_of intersect edge kind | Nowhere ↦ nowhere_of kind ]
+      | Right ↦ elim (line_intersect_segment_of right edge) [ Some intersect ↦ first_crossing_of intersect edge kind | None ↦ nowhere_of kind ]
       | Left ↦ nowhere_of (seen_from_right_of kind)
       | Edge ↦ nowhere_of (unless_right_of (side_of edge.1 right) Observable kind)
     ]
@@ -78,8 +76,8 @@ unfoldable pub second_cut_of : Segment → Segment → Segment → SuccessorType
 second_cut_of left right edge kind =
     elim (side_of edge.1 left) [
       | Left ↦ elim (line_intersect_segment_of left edge) [
-        | At intersect ↦ record { at = cut_if_of (told_apart_of intersect edge.1) intersect; kind = LeftNonObservable }
-        | Nowhere ↦ nowhere_of kind
+        | Some intersect ↦ record { at = cut_if_of (told_apart_of intersect edge.1) intersect; kind = LeftNonObservable }
+        | None ↦ nowhere_of kind
       ]
       | Edge ↦ nowhere_of (unless_right_of (side_of edge.1 right) LeftNonObservable kind)
       | Right ↦ nowhere_of kind

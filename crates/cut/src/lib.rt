@@ -6,7 +6,6 @@ ghost use Rattle.std.specs.Prelude.{◌≡◌};
 ghost use Rattle.cut.specs.Cut.{told_apart_of, apart_from_both_of, cut_if_of, seen_if_of, nowhere_of, first_crossing_of, seen_from_right_of, unless_right_of};
 ghost use Rattle.cut.specs.Cut.{first_cut_of, second_cut_of};
 
-use helpers::Crossing;
 use point::{EdgeSide, Point, Segment};
 
 // How an interval is seen from the root.
@@ -20,7 +19,7 @@ pub enum SuccessorType {
 // Where a ray cuts an edge, if it does, and the kind from there on.
 #[derive(Clone, Copy)]
 pub struct Cut {
-    pub at: Crossing,
+    pub at: Option<Point>,
     pub kind: SuccessorType,
 }
 
@@ -29,10 +28,7 @@ impl Cut {
     fn nowhere(kind: SuccessorType) -> Cut
         ensures { result ≡ nowhere_of kind }
     {
-        Cut {
-            at: Crossing::Nowhere,
-            kind,
-        }
+        Cut { at: None, kind }
     }
 }
 
@@ -52,13 +48,10 @@ fn apart_from_both(cut: Point, edge: Segment) -> bool
 }
 
 #[tactic(auto, unfolding(crate::specs::Cut::cut_if_of))]
-fn cut_if(apart: bool, cut: Point) -> Crossing
+fn cut_if(apart: bool, cut: Point) -> Option<Point>
     ensures { result ≡ cut_if_of apart cut }
 {
-    if apart {
-        return Crossing::At(cut);
-    }
-    Crossing::Nowhere
+    apart.then_some(cut)
 }
 
 #[tactic(auto, unfolding(crate::specs::Cut::seen_if_of))]
@@ -88,9 +81,8 @@ fn seen_from_right(kind: SuccessorType) -> SuccessorType
     ensures { result ≡ seen_from_right_of kind }
 {
     match kind {
-        SuccessorType::LeftNonObservable => SuccessorType::LeftNonObservable,
-        SuccessorType::Observable => SuccessorType::Observable,
         SuccessorType::RightNonObservable => SuccessorType::Observable,
+        SuccessorType::LeftNonObservable | SuccessorType::Observable => kind,
     }
 }
 
@@ -99,9 +91,8 @@ fn unless_right(side: EdgeSide, then: SuccessorType, kind: SuccessorType) -> Suc
     ensures { result ≡ unless_right_of side then kind }
 {
     match side {
-        EdgeSide::Left => then,
+        EdgeSide::Edge | EdgeSide::Left => then,
         EdgeSide::Right => kind,
-        EdgeSide::Edge => then,
     }
 }
 
@@ -110,15 +101,11 @@ fn unless_right(side: EdgeSide, then: SuccessorType, kind: SuccessorType) -> Suc
 pub fn first_cut(right: Segment, edge: Segment, kind: SuccessorType) -> Cut
     ensures { result ≡ first_cut_of right edge kind }
 {
-    let start_side = edge.0.side(right);
-    match start_side {
-        EdgeSide::Right => {
-            let crossing = helpers::line_intersect_segment(right, edge);
-            match crossing {
-                Crossing::At(intersect) => first_crossing(intersect, edge, kind),
-                Crossing::Nowhere => Cut::nowhere(kind),
-            }
-        }
+    match edge.0.side(right) {
+        EdgeSide::Right => match helpers::line_intersect_segment(right, edge) {
+            Some(intersect) => first_crossing(intersect, edge, kind),
+            None => Cut::nowhere(kind),
+        },
         EdgeSide::Left => Cut::nowhere(seen_from_right(kind)),
         EdgeSide::Edge => {
             let end_side = edge.1.side(right);
@@ -132,19 +119,15 @@ pub fn first_cut(right: Segment, edge: Segment, kind: SuccessorType) -> Cut
 pub fn second_cut(left: Segment, right: Segment, edge: Segment, kind: SuccessorType) -> Cut
     ensures { result ≡ second_cut_of left right edge kind }
 {
-    let end_root_int1 = edge.1.side(left);
-    match end_root_int1 {
-        EdgeSide::Left => {
-            let crossing = helpers::line_intersect_segment(left, edge);
-            match crossing {
-                Crossing::At(intersect) => {
-                    let at = cut_if(told_apart(intersect, edge.1), intersect);
-                    let kind = SuccessorType::LeftNonObservable;
-                    Cut { at, kind }
-                }
-                Crossing::Nowhere => Cut::nowhere(kind),
+    match edge.1.side(left) {
+        EdgeSide::Left => match helpers::line_intersect_segment(left, edge) {
+            Some(intersect) => {
+                let at = cut_if(told_apart(intersect, edge.1), intersect);
+                let kind = SuccessorType::LeftNonObservable;
+                Cut { at, kind }
             }
-        }
+            None => Cut::nowhere(kind),
+        },
         EdgeSide::Edge => {
             let end_side = edge.1.side(right);
             Cut::nowhere(unless_right(end_side, SuccessorType::LeftNonObservable, kind))

@@ -1,4 +1,4 @@
--- Of a listed polygon whose corners are right: every index that is read is inside its list, and an edge is made of the stored vertices. Assumes nothing.
+-- Of a polygon whose corners are right: every index that is read is inside its list, and an edge is made of the stored vertices. Assumes nothing.
 use Prim.Native.Nat.{ℕ, ◌+◌, ◌/◌, ◌≤◌, ◌<◌}
 use native.Mathlib.Nat.{lt_of_lt_of_le}
 use native.Mathlib.Omega.{arith}
@@ -10,38 +10,51 @@ use borrow.Author.Tests.{eqb-false}
 use lib.Dec.{eqb}
 use lib.ListN.{length}
 use Rattle.point.specs.Point.{plus_of}
-use Rattle.plan.specs.Plan.{slots_in, vertex_count_in, polygon_count_in}
-use Rattle.stored.specs.Stored.{unused, origin, vertex_at, polygon_at, record_in, floor_in, corner, corner_count, corner_after, edge}
+use Rattle.plan.specs.Plan.{vertex_count_in, polygon_count_in}
+use Rattle.stored.specs.Stored.{Polygon, unused, origin, vertex_at, vertices_of, record_in, floor_in, corner, corner_count, corner_after, polygon, edge_of}
 use Rattle.faults.specs.Accepted.{Corners, Listed}
+use Rattle.edges.specs.Where.{HasEdge}
 use Rattle.edges.specs.Ground.{Ground}
-use Rattle.stored.proofs.Records.{corner_beyond, corner_slots, count_slots, vertex_count_lem, vertex_used, polygon_read, polygons_counted}
+use Rattle.stored.proofs.Records.{corner_beyond, count_slots, vertex_count_lem, vertex_used, polygon_read, polygons_counted}
 
-pub slot_inside : (s : ℕ) (ps : List ℕ) (p i : ℕ) → i < corner_count (polygon_at s ps p) → i < s
-slot_inside s ps p i l = lt_of_lt_of_le l (count_slots s ps p)
+pub slot_inside : (q : Polygon) (i : ℕ) → i < corner_count q → i < length q.corners
+slot_inside q i l = lt_of_lt_of_le l (count_slots q)
 
 -- ---- by its corners
 
-module _ (s : ℕ) (ps : List ℕ) (p n : ℕ) (h : Corners n (polygon_at s ps p)) where
-  pub corner_below : (i : ℕ) → i < corner_count (polygon_at s ps p) → corner (polygon_at s ps p) i < n
+module _ {n : ℕ} {q : Polygon} (h : Corners n q) where
+  pub corner_below : (i : ℕ) → i < corner_count q → corner q i < n
   corner_below i l = h.listed i l
 
   -- behind the last corner the slots are unused, inside the record and past it
-  behind_unused : (i : ℕ) → corner_count (polygon_at s ps p) ≤ i → corner (polygon_at s ps p) i ≡ unused
-  behind_unused i l = go (dec_lt i s)
+  behind_unused : (i : ℕ) → corner_count q ≤ i → corner q i ≡ unused
+  behind_unused i l = go (dec_lt i (length q.corners))
     where
-      go : Dec (i < s) → corner (polygon_at s ps p) i ≡ unused
-      go (yes b) = h.rest i l (subst (λ (v : ℕ). i < v) (sym (corner_slots s ps p)) b)
-      go (no b) = corner_beyond s ps p i (omega arith)
+      go : Dec (i < length q.corners) → corner q i ≡ unused
+      go (yes b) = h.rest i l b
+      go (no b) = corner_beyond q i (omega arith)
 
-  pub after_below : (i : ℕ) → i < corner_count (polygon_at s ps p) → corner_after (polygon_at s ps p) i < n
+  pub after_below : (i : ℕ) → i < corner_count q → corner_after q i < n
   unfolding corner_after
-  after_below i l = go (eqb (corner (polygon_at s ps p) (i + 1)) unused) refl (dec_lt (i + 1) (corner_count (polygon_at s ps p)))
+  after_below i l = go (eqb (corner q (i + 1)) unused) refl (dec_lt (i + 1) (corner_count q))
     where
-      go : (b : Bool) → eqb (corner (polygon_at s ps p) (i + 1)) unused ≡ b → Dec (i + 1 < corner_count (polygon_at s ps p))
-          → cond b (corner (polygon_at s ps p) 0) (corner (polygon_at s ps p) (i + 1)) < n
+      go : (b : Bool) → eqb (corner q (i + 1)) unused ≡ b → Dec (i + 1 < corner_count q) → cond b (corner q 0) (corner q (i + 1)) < n
       go true e d = corner_below 0 (omega (arith, h.three))
       go false e (yes d) = corner_below (i + 1) d
-      go false e (no d) = absurd (eqb-false (corner (polygon_at s ps p) (i + 1)) unused e (behind_unused (i + 1) (omega arith)))
+      go false e (no d) = absurd (eqb-false (corner q (i + 1)) unused e (behind_unused (i + 1) (omega arith)))
+
+  -- both ends of an edge are among the vertices
+  pub has_edge : (i : ℕ) → i < corner_count q → HasEdge n q i
+  has_edge i l = (l, corner_below i l, after_below i l)
+
+  -- and among more
+  pub corners_among : (m : ℕ) → n ≤ m → Corners m q
+  corners_among m few = record { three = h.three; rest = h.rest; distinct = h.distinct; listed = λ i l. lt_of_lt_of_le (h.listed i l) few }
+
+-- its ends are stored vertices, as they are used
+pub edge_stored : (vs : List ℕ) (q : Polygon) (i : ℕ) → corner q i < length vs / 8 → corner_after q i < length vs / 8
+    → edge_of (vertices_of vs) q i ≡ (plus_of (vertex_at vs (corner q i)) origin, plus_of (vertex_at vs (corner_after q i)) origin)
+edge_stored vs q i start end = rw (vertex_used vs (corner q i) start, vertex_used vs (corner_after q i) end)
 
 -- ---- on an accepted floor
 
@@ -59,24 +72,12 @@ module _ {plan vs ps : List ℕ} (g : Ground plan vs ps) where
         at (g.accepted.corners p (subst (λ (n : ℕ). p < n) (sym (polygons_counted g.polygons_planned)) h));
   }
 
+  -- of a polygon of the floor, as it is read
+  pub corners_of : (p : ℕ) → p < polygon_count_in plan → {q : Polygon} → q ≡ polygon (floor_in plan vs ps) p → Corners (length vs / 8) q
+  corners_of p h e =
+      rw (e, ← vertex_count_lem vs) (g.accepted.corners p (subst (λ (n : ℕ). p < n) (sym (polygons_counted g.polygons_planned)) h))
+
 module _ {plan vs ps : List ℕ} {p : ℕ} (h : Listed plan vs ps p) where
-  stored_below : {v : ℕ} → v < vertex_count_in plan → v < length vs / 8
-  stored_below {v} l = subst (λ (n : ℕ). v < n) h.vertices_planned.counted l
-
-  -- both ends of an edge are in the vertex list
-  pub corner_stored : (i : ℕ) → i < corner_count (record_in plan ps p) → corner (record_in plan ps p) i < length vs / 8
-  corner_stored i l = stored_below (corner_below (slots_in plan) ps p (vertex_count_in plan) h.corners i l)
-
-  pub after_stored : (i : ℕ) → i < corner_count (record_in plan ps p) → corner_after (record_in plan ps p) i < length vs / 8
-  after_stored i l = stored_below (after_below (slots_in plan) ps p (vertex_count_in plan) h.corners i l)
-
-  pub edge_stored : (i : ℕ) → i < corner_count (record_in plan ps p)
-      → edge (floor_in plan vs ps) p i
-      ≡ (plus_of (vertex_at vs (corner (record_in plan ps p) i)) origin, plus_of (vertex_at vs (corner_after (record_in plan ps p) i)) origin)
-  unfolding edge
-  edge_stored i l =
-      rw (
-        polygon_read h.polygons_planned p h.listed,
-        vertex_used vs (corner (record_in plan ps p) i) (corner_stored i l),
-        vertex_used vs (corner_after (record_in plan ps p) i) (after_stored i l),
-      )
+  -- what `edge` and `contains` ask
+  pub listed_corners : Corners (length vs / 8) (record_in plan ps p)
+  listed_corners = rw (← h.vertices_planned.counted) h.corners

@@ -1,16 +1,23 @@
 -- Document 01, "A permitted step": which polygon a point is in, and which vertices turn. Assumes nothing.
-use Rattle.std.specs.Prelude.{ℕ, zero, suc, Bool, not, ◌&&◌, ◌||◌, cond, List, eqb, length}
+use Rattle.std.specs.Prelude.{ℕ, zero, suc, ◌<◌, Bool, not, ◌&&◌, ◌||◌, cond, List, eqb, length}
 use Rattle.counts.specs.Counts.{every, some, first}
 use Rattle.point.specs.declared.Point.{Point}
 use Rattle.point.specs.declared.EdgeSide.TheVariants.{Right}
 use Rattle.point.specs.Sides.{side_of, same_side_of}
 use Rattle.plan.specs.Plan.{marked, laid}
 use Rattle.stored.specs.Stored.{Floor, Polygon, unused, vertex_count, polygon_count, polygons_of}
-use Rattle.stored.specs.Stored.{corner, neighbour, corner_count, corner_after, polygon_in, polygon, edge}
+use Rattle.stored.specs.Stored.{corner, neighbour, corner_count, corner_after, polygon_in, polygon, edge_of}
+
+-- edge i is one of the polygon's, and both its ends are among so many vertices
+abbrev pub HasEdge : ℕ → Polygon → ℕ → Type 0
+HasEdge count q i = (i < corner_count q) × (corner q i < count) × (corner_after q i < count)
 
 -- "A polygon contains a point if the point is Right of none of its edges."
+abbrev pub contains_in : List Point → Polygon → Point → Bool
+contains_in vertices q point = every (corner_count q) (λ i. not (same_side_of (side_of point (edge_of vertices q i)) Right))
+
 unfoldable pub contains : Floor → Point → ℕ → Bool
-contains f point p = every (corner_count (polygon f p)) (λ i. not (same_side_of (side_of point (edge f p i)) Right))
+contains f point p = contains_in f.vertices (polygon f p) point
 
 -- "The lowest-numbered one counts." The number of polygons where none contains it.
 unfoldable pub polygon_of : Floor → Point → ℕ

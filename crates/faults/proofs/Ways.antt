@@ -1,22 +1,22 @@
 -- Each way through the tests is the definition's, by what the code has found out on it. Assumes nothing.
-use Prim.Native.Nat.{ℕ, ◌+◌, ◌-◌, ◌≤◌, ◌<◌}
+use Prim.Native.Nat.{ℕ, ◌+◌, ◌≤◌, ◌<◌}
 use native.Mathlib.Omega.{arith}
-use mathlib.Core.Path.{◌≡◌, refl, sym, ap, ◌∙◌}
+use mathlib.Core.Path.{◌≡◌, refl, sym, ◌∙◌}
 use mathlib.Core.Bool.{Bool, true, false, not}
-use mathlib.Core.List.{List}
+use mathlib.Core.List.{List, ◌++◌}
 use borrow.Author.Count.{below_none, below_more}
-use borrow.Author.Tests.{le-leb, lt-leb, eq-eqb, ne_eqb, not-true, not-false}
+use borrow.Author.Tests.{le-leb, lt-leb, le-ltb, lt-ltb, eq-eqb, ne_eqb, not-true, not-false}
 use lib.Dec.{leb, ltb, eqb}
-use Rattle.point.specs.declared.Point.{Point}
+use lib.ListN.{length, get_or}
 use Rattle.point.proofs.Cases.{and_taken}
 use Rattle.counts.specs.Counts.{every}
 use Rattle.counts.proofs.Laws.{every_true, every_false, some_true, some_false}
-use Rattle.plan.specs.Plan.{slots_in, polygon_count_in}
-use Rattle.stored.specs.Stored.{Polygon, unused, corner, neighbour, corner_count, corner_after, slot_in, record_in, polygon_in, polygons_in, PolygonsPlanned}
-use Rattle.stored.proofs.Records.{polygon_read, corner_slots, neighbour_slots, Upto, upto_none, ends_with_slots, ends_here, goes_on, upto_more}
-use Rattle.faults.specs.Tests.{coordinate_right, point_right, rest_unused, unlike_earlier, distinct, corners_listed, corners_right}
+use Rattle.plan.specs.Plan.{polygon_count_in}
+use Rattle.stored.specs.Stored.{Polygon, unused, corner, neighbour, corner_count, corner_after, record_in, polygons_in, PolygonsPlanned}
+use Rattle.stored.proofs.Records.{polygon_read, Upto, upto_none, ends_with_slots, ends_here, goes_on, upto_more}
+use Rattle.faults.specs.Tests.{rest_unused, unlike_earlier, distinct, corners_listed, corners_right}
 use Rattle.faults.specs.Tests.{is_back, names_back, link_right, links_right}
-use Rattle.faults.proofs.Rest.{rest_by_lem, rest_corners, rest_neighbours_by}
+use Rattle.faults.proofs.Rest.{unused_none, unused_all, rest_corners, rest_neighbours_by}
 
 -- ---- a loop that ends at the first that is not so
 
@@ -47,29 +47,7 @@ module _ {b a : Bool} (asked : b ≡ a) where
   pub was_not : not b ≡ true → a ≡ false
   was_not e = sym asked ∙ not-true b e
 
--- where that was read first
-pub below_read : {b : Bool} {x y : ℕ} (n : ℕ) → b ≡ ltb x n → x ≡ y → b ≡ ltb y n
-below_read n e r = e ∙ ap (λ k. ltb k n) r
-
-pub unused_read : {b : Bool} {x y : ℕ} → b ≡ eqb x unused → x ≡ y → b ≡ eqb y unused
-unused_read e r = e ∙ ap (λ k. eqb k unused) r
-
--- ---- 4
-
-module _ (p : Point) {b : Bool} (x : b ≡ coordinate_right p.x) where
-  pub point_wrong : b ≡ false → b ≡ point_right p
-  unfolding point_right
-  point_wrong e = rw (← x, e)
-
-  pub point_by_y : b ≡ true → {c : Bool} → c ≡ coordinate_right p.y → c ≡ point_right p
-  unfolding point_right
-  point_by_y e y = rw (← x, e, ← y)
-
 -- ---- 5
-
--- of the slots of one kind
-pub rest_told : (slot : ℕ → ℕ) (n : ℕ) {read s : ℕ} → read ≡ s → {b : Bool} → b ≡ every (read - n) (λ k. eqb (slot (n + k)) unused) → b ≡ rest_unused slot s n
-rest_told slot n read e = e ∙ rest_by_lem slot n read
 
 module _ (q : Polygon) (j : ℕ) where
   pub earlier_told : {b : Bool} → b ≡ every j (λ i. not (eqb (corner q i) (corner q j))) → b ≡ unlike_earlier q j
@@ -84,37 +62,44 @@ module _ (q : Polygon) (j : ℕ) where
     corners_unlike_here e = rw (← read, ← read_last, ne_eqb _ _ e)
 
 module _ (q : Polygon) {n : ℕ} (counted : n ≡ corner_count q) where
-  pub listed_told : {count m : ℕ} → m ≡ count → {b : Bool} → b ≡ every n (λ i. ltb (corner q i) m) → b ≡ corners_listed count q
+  -- a corner that was read
+  pub listed_here : {count : ℕ} (i : ℕ) {x : ℕ} → x ≡ corner q i → x < count → ltb (corner q i) count ≡ true
+  listed_here i read l = rw (← read) (lt-ltb _ _ l)
+
+  pub unlisted_here : {count : ℕ} (i : ℕ) {x : ℕ} → x ≡ corner q i → count ≤ x → ltb (corner q i) count ≡ false
+  unlisted_here i read l = rw (← read) (le-ltb _ _ l)
+
+  pub listed_told : (count : ℕ) {b : Bool} → b ≡ every n (λ i. ltb (corner q i) count) → b ≡ corners_listed count q
   unfolding corners_listed
-  listed_told e g = rw (← counted, ← e) g
+  listed_told count g = rw (← counted) g
 
   pub distinct_told : {b : Bool} → b ≡ every n (unlike_earlier q) → b ≡ distinct q
   unfolding distinct
   distinct_told e = rw (← counted) e
 
-module _ {plan ps : List ℕ} (planned : PolygonsPlanned plan ps) (p : ℕ) (listed : p < polygon_count_in plan)
-    {n : ℕ} (counted : n ≡ corner_count (record_in plan ps p)) where
-  module _ (count : ℕ) where
-    pub corners_few : n < 3 → leb 3 n ≡ corners_right count (polygon_in (polygons_in plan ps) p)
+-- the number in a slot of a polygon's record, of the slots that begin at one
+abbrev pub slot_from : Polygon → ℕ → ℕ → ℕ
+slot_from q begin i = get_or (q.corners ++ q.neighbours) (begin + i) unused
+
+module _ (q : Polygon) {n : ℕ} (counted : n ≡ corner_count q) (count : ℕ) where
+  pub corners_few : n < 3 → leb 3 n ≡ corners_right count q
+  unfolding corners_right
+  corners_few l = rw (← counted, lt-leb _ _ l)
+
+  module _ (l : 3 ≤ n) {a : Bool} (rest : a ≡ rest_unused (slot_from q 0) (length q.corners) n) where
+    pub corners_behind : a ≡ false → a ≡ corners_right count q
     unfolding corners_right
-    corners_few l = rw (polygon_read planned p listed, ← counted, lt-leb _ _ l)
+    corners_behind e = rw (← counted, le-leb _ _ l, rest_corners _ _, ← rest, e)
 
-    module _ (l : 3 ≤ n) {a : Bool} (rest : a ≡ rest_unused (λ i. slot_in plan ps p (0 + i)) (slots_in plan) n) where
-      pub corners_behind : a ≡ false → a ≡ corners_right count (polygon_in (polygons_in plan ps) p)
+    module _ (e : a ≡ true) {b : Bool} (unlike : b ≡ distinct q) where
+      pub corners_alike : b ≡ false → b ≡ corners_right count q
       unfolding corners_right
-      corners_behind e = rw (polygon_read planned p listed, ← counted, le-leb _ _ l, corner_slots _ _ _, rest_corners _ _ _ _, ← rest, e)
+      corners_alike g = rw (← counted, le-leb _ _ l, rest_corners _ _, ← rest, e, ← unlike, g)
 
-      module _ (e : a ≡ true) {b : Bool} (unlike : b ≡ distinct (record_in plan ps p)) where
-        pub corners_alike : b ≡ false → b ≡ corners_right count (polygon_in (polygons_in plan ps) p)
-        unfolding corners_right
-        corners_alike g = rw (polygon_read planned p listed, ← counted, le-leb _ _ l, corner_slots _ _ _, rest_corners _ _ _ _, ← rest, e, ← unlike, g)
-
-        pub corners_by_numbers : b ≡ true → {c : Bool} → c ≡ corners_listed count (record_in plan ps p)
-            → c ≡ corners_right count (polygon_in (polygons_in plan ps) p)
-        unfolding corners_right
-        corners_by_numbers g h =
-            rw (polygon_read planned p listed, ← counted) (and_taken _ _ (le-leb 3 _ l)
-            (rw (corner_slots _ _ _, rest_corners _ _ _ _, ← rest, e, ← unlike, g) h))
+      pub corners_by_numbers : b ≡ true → {c : Bool} → c ≡ corners_listed count q → c ≡ corners_right count q
+      unfolding corners_right
+      corners_by_numbers g h =
+          rw (← counted) (and_taken _ _ (le-leb 3 _ l) (rw (rest_corners _ _, ← rest, e, ← unlike, g) h))
 
 -- ---- 6
 
@@ -133,67 +118,61 @@ module _ (q : Polygon) (p a b j : ℕ) {x : ℕ} (begins : x ≡ corner q j) whe
     back_by_neighbour g across = rw (← begins, eq-eqb _ _ e, ← ends, eq-eqb _ _ g, ← across) refl
 
 -- up to slot j every slot of q is a corner's and no edge leads back
-pub record NoneBack (plan ps : List ℕ) (q p a b slots j : ℕ) : Type 0 where
-  pub upto : Upto plan ps q slots j
-  pub none : (k : ℕ) → k < j → is_back (record_in plan ps q) p a b k ≡ false
+pub record NoneBack (q : Polygon) (p a b slots j : ℕ) : Type 0 where
+  pub upto : Upto q slots j
+  pub none : (k : ℕ) → k < j → is_back q p a b k ≡ false
 
-pub none_yet : {plan ps : List ℕ} {q p a b slots : ℕ} → slots ≡ slots_in plan → NoneBack plan ps q p a b slots 0
+pub none_yet : {q : Polygon} {p a b slots : ℕ} → slots ≡ length q.corners → NoneBack q p a b slots 0
 none_yet e = record { upto = upto_none e; none = below_none _ }
 
-module _ {plan ps : List ℕ} {q p a b slots j : ℕ} (h : NoneBack plan ps q p a b slots j) where
-  abbrev its : Polygon
-  its = record_in plan ps q
-
-  none_at_all : corner_count its ≡ j → false ≡ names_back its p a b
+module _ {q : Polygon} {p a b slots j : ℕ} (h : NoneBack q p a b slots j) where
+  none_at_all : corner_count q ≡ j → false ≡ names_back q p a b
   unfolding names_back
   none_at_all e = sym (some_false _ _ (λ k m. h.none k (omega (arith, m, e))))
 
-  pub back_of_none : slots ≤ j → false ≡ names_back its p a b
+  pub back_of_none : slots ≤ j → false ≡ names_back q p a b
   back_of_none l = none_at_all (ends_with_slots h.upto l)
 
-  module _ (l : j < slots) {x : ℕ} (read : x ≡ corner its j) where
-    pub back_of_ended : x ≡ unused → false ≡ names_back its p a b
+  module _ (l : j < slots) {x : ℕ} (read : x ≡ corner q j) where
+    pub back_of_ended : x ≡ unused → false ≡ names_back q p a b
     back_of_ended e = none_at_all (ends_here h.upto l read e)
 
-    module _ (e : x ≡ unused → ⊥) {r : Bool} (back : r ≡ is_back its p a b j) where
-      pub back_here : r ≡ true → true ≡ names_back its p a b
+    module _ (e : x ≡ unused → ⊥) {r : Bool} (back : r ≡ is_back q p a b j) where
+      pub back_here : r ≡ true → true ≡ names_back q p a b
       unfolding names_back
       back_here g = sym (some_true _ _ j (goes_on h.upto l read e) (sym back ∙ g))
 
-      pub none_here : r ≡ false → NoneBack plan ps q p a b slots (j + 1)
+      pub none_here : r ≡ false → NoneBack q p a b slots (j + 1)
       none_here g = record { upto = upto_more h.upto l read e; none = below_more _ _ h.none (sym back ∙ g) }
 
 -- up to slot i every slot of p is a corner's and its link is right
-pub record Linked (plan ps : List ℕ) (p slots i : ℕ) : Type 0 where
-  pub upto : Upto plan ps p slots i
+pub record Linked (plan ps : List ℕ) (here : Polygon) (p slots i : ℕ) : Type 0 where
+  pub upto : Upto here slots i
   pub right : (k : ℕ) → k < i → link_right (polygons_in plan ps) p k ≡ true
 
-pub linked_yet : {plan ps : List ℕ} {p slots : ℕ} → slots ≡ slots_in plan → Linked plan ps p slots 0
+pub linked_yet : {plan ps : List ℕ} {here : Polygon} {p slots : ℕ} → slots ≡ length here.corners → Linked plan ps here p slots 0
 linked_yet e = record { upto = upto_none e; right = below_none _ }
 
-module _ {plan ps : List ℕ} {p slots i : ℕ} (h : Linked plan ps p slots i) (planned : PolygonsPlanned plan ps) (listed : p < polygon_count_in plan) where
-  by_rest : corner_count (record_in plan ps p) ≡ i → {b : Bool} → b ≡ rest_unused (λ k. slot_in plan ps p (slots + k)) (slots_in plan) i
+module _ {plan ps : List ℕ} {here : Polygon} {p slots i : ℕ} (h : Linked plan ps here p slots i) (planned : PolygonsPlanned plan ps)
+    (listed : p < polygon_count_in plan) (at : here ≡ record_in plan ps p) (alike : slots ≡ length here.neighbours) where
+  by_rest : corner_count here ≡ i → {b : Bool} → b ≡ rest_unused (slot_from here slots) (length here.corners) i
       → b ≡ links_right (polygons_in plan ps) p
   unfolding links_right
   by_rest e rest =
-      rw (polygon_read planned p listed, e, every_true _ _ h.right, neighbour_slots _ _ _, rest_neighbours_by _ _ _ h.upto.all _, ← rest)
-
-  none_left : slots ≤ i → true ≡ rest_unused (λ k. slot_in plan ps p (slots + k)) (slots_in plan) i
-  unfolding rest_unused every
-  none_left l = let e : slots_in plan - i ≡ 0 = omega (arith, l, h.upto.all) in rw e
+      rw (polygon_read planned p listed, ← at, e, every_true _ _ h.right, rest_neighbours_by _ h.upto.all alike _, ← rest)
 
   pub links_all : slots ≤ i → true ≡ links_right (polygons_in plan ps) p
-  links_all l = by_rest (ends_with_slots h.upto l) (none_left l)
+  links_all l = by_rest (ends_with_slots h.upto l) (unused_all unused_none (omega (arith, l, h.upto.all)))
 
-  module _ (l : i < slots) {x : ℕ} (read : x ≡ corner (record_in plan ps p) i) where
-    pub links_behind : x ≡ unused → {b : Bool} → b ≡ rest_unused (λ k. slot_in plan ps p (slots + k)) (slots_in plan) i
+  module _ (l : i < slots) {x : ℕ} (read : x ≡ corner here i) where
+    pub links_behind : x ≡ unused → {b : Bool} → b ≡ rest_unused (slot_from here slots) (length here.corners) i
         → b ≡ links_right (polygons_in plan ps) p
     links_behind e = by_rest (ends_here h.upto l read e)
 
     module _ (e : x ≡ unused → ⊥) {r : Bool} (asked : r ≡ link_right (polygons_in plan ps) p i) where
       pub links_wrong : not r ≡ true → false ≡ links_right (polygons_in plan ps) p
       unfolding links_right
-      links_wrong g = rw (polygon_read planned p listed, every_false _ _ i (goes_on h.upto l read e) (was_not asked g))
+      links_wrong g = rw (polygon_read planned p listed, ← at, every_false _ _ i (goes_on h.upto l read e) (was_not asked g))
 
-      pub linked_more : not r ≡ false → Linked plan ps p slots (i + 1)
+      pub linked_more : not r ≡ false → Linked plan ps here p slots (i + 1)
       linked_more g = record { upto = upto_more h.upto l read e; right = below_more _ _ h.right (was_so asked g) }

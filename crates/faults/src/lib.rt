@@ -2,15 +2,15 @@
 // The tests 2 to 7, each of one list, one record or the question. 7 is defined here; its code is `question_right` in the crate floor,
 // which asks `point_right` of start and goal.
 
-ghost use Rattle.std.specs.Prelude.{◌≡◌, ◌+◌, ◌/◌, ◌≤◌, ◌<◌, eqb, ltb};
-ghost use Rattle.plan.specs.Plan.{slots_in, vertex_count_in, polygon_count_in};
-ghost use Rattle.stored.specs.Stored.{unused, slot_in, record_in, polygon_in, polygons_in, corner_count, Lies, PolygonsPlanned};
+ghost use Rattle.std.specs.Prelude.{◌≡◌, ◌+◌, ◌/◌, ◌≤◌, ◌<◌, ◌++◌, length, get_or};
+ghost use Rattle.plan.specs.Plan.{slots_in, polygon_count_in};
+ghost use Rattle.stored.specs.Stored.{unused, polygons_in, corner_count, PolygonsPlanned};
 ghost use Rattle.faults.specs.Tests.{length_right, coordinate_right, point_right, rest_unused, unlike_earlier, distinct, corners_listed, corners_right};
 ghost use Rattle.faults.specs.Tests.{is_back, names_back, link_right, links_right};
 
-use plan::PLAN;
+use plan::Plan;
 use point::Point;
-use stored::{UNUSED, corner, corner_after, corner_count, neighbour, slot};
+use stored::{StoredPolygon, UNUSED};
 
 // 2 and 3: whole records of a size, from 1 to a limit.
 #[tactic(auto, unfolding(crate::specs::Tests::length_right))]
@@ -30,164 +30,136 @@ pub fn coordinate_right(x: f32) -> bool
     -Point::LIMIT <= x && x <= Point::LIMIT
 }
 
+#[tactic(auto, unfolding(crate::specs::Tests::point_right))]
 pub fn point_right(point: Point) -> bool
     ensures { result ≡ point_right point }
 {
     coordinate_right(point.x) && coordinate_right(point.y)
 }
 
-fn is_unused(slot: u32) -> bool
-    ensures { result ≡ eqb slot unused }
-{
-    slot == UNUSED
-}
-
 // 5 and 6: of the slots of one kind, which begin at a slot, every one from the n-th on is unused.
-fn rest_unused(polygons: &[u8], plan: &[u32; PLAN], p: usize, begin: usize, n: usize) -> bool
-    requires { Lies plan.now polygons.now p × (begin ≤ slots_in plan.now) × (n ≤ slots_in plan.now) }
-    ensures { result ≡ rest_unused (λ i. slot_in plan.now polygons.now p (begin + i)) (slots_in plan.now) n }
+fn rest_unused(polygon: &StoredPolygon, begin: usize, n: usize) -> bool
+    requires { begin ≤ length polygon.now.neighbours }
+    ensures { result ≡ rest_unused (λ i. get_or (polygon.now.corners ++ polygon.now.neighbours) (begin + i) unused) (length polygon.now.corners) n }
 {
-    let rest = plan::slots(plan) - n;
-    let mut i = 0;
-    while i < rest {
-        if !is_unused(slot(polygons, plan, p, begin + (n + i))) {
+    for i in n..polygon.slots() {
+        if polygon.slot(begin + i) != UNUSED {
             return false;
         }
-        i += 1;
     }
     true
 }
 
 // Corner j is none of the corners before it.
-fn unlike_earlier(polygons: &[u8], plan: &[u32; PLAN], p: usize, j: usize) -> bool
-    requires { Lies plan.now polygons.now p × (j < slots_in plan.now) }
-    ensures { result ≡ unlike_earlier (record_in plan.now polygons.now p) j }
+fn unlike_earlier(polygon: &StoredPolygon, j: usize) -> bool
+    requires { j < length polygon.now.corners }
+    ensures { result ≡ unlike_earlier polygon.now j }
 {
-    let last = corner(polygons, plan, p, j);
-    let mut i = 0;
-    while i < j {
-        if corner(polygons, plan, p, i) == last {
+    let last = polygon.corner(j);
+    for i in 0..j {
+        if polygon.corner(i) == last {
             return false;
         }
-        i += 1;
     }
     true
 }
 
 // 5: the n corners are distinct, by number.
-fn corners_distinct(polygons: &[u8], plan: &[u32; PLAN], p: usize, n: usize) -> bool
-    requires { Lies plan.now polygons.now p × (n ≤ slots_in plan.now) × (n ≡ corner_count (record_in plan.now polygons.now p)) }
-    ensures { result ≡ distinct (record_in plan.now polygons.now p) }
+fn corners_distinct(polygon: &StoredPolygon, n: usize) -> bool
+    requires { (n ≤ length polygon.now.corners) × (n ≡ corner_count polygon.now) }
+    ensures { result ≡ distinct polygon.now }
 {
-    let mut j = 0;
-    while j < n {
-        if !unlike_earlier(polygons, plan, p, j) {
+    for j in 0..n {
+        if !unlike_earlier(polygon, j) {
             return false;
         }
-        j += 1;
     }
     true
 }
 
-fn is_below(number: u32, count: usize) -> bool
-    ensures { result ≡ ltb number count }
-{
-    (number as usize) < count
-}
-
 // 5: each of the n corners is below the vertex count.
-fn corners_listed(polygons: &[u8], plan: &[u32; PLAN], p: usize, n: usize) -> bool
-    requires { Lies plan.now polygons.now p × (n ≤ slots_in plan.now) × (n ≡ corner_count (record_in plan.now polygons.now p)) }
-    ensures { result ≡ corners_listed (vertex_count_in plan.now) (record_in plan.now polygons.now p) }
+fn corners_listed(polygon: &StoredPolygon, vertices: usize, n: usize) -> bool
+    requires { (n ≤ length polygon.now.corners) × (n ≡ corner_count polygon.now) }
+    ensures { result ≡ corners_listed vertices polygon.now }
 {
-    let count = plan::vertex_count(plan);
-    let mut i = 0;
-    while i < n {
-        if !is_below(corner(polygons, plan, p, i), count) {
+    for i in 0..n {
+        if vertices <= polygon.corner(i) as usize {
             return false;
         }
-        i += 1;
     }
     true
 }
 
 // 5: from 3 corners on, the unused slots behind them, distinct, each below the vertex count.
-pub fn corners_right(polygons: &[u8], plan: &[u32; PLAN], p: usize) -> bool
-    requires { PolygonsPlanned plan.now polygons.now × (p < polygon_count_in plan.now) }
-    ensures { result ≡ corners_right (vertex_count_in plan.now) (polygon_in (polygons_in plan.now polygons.now) p) }
+pub fn corners_right(polygon: &StoredPolygon, vertices: usize) -> bool
+    ensures { result ≡ corners_right vertices polygon.now }
 {
-    let n = corner_count(polygons, plan, p);
+    let n = polygon.corner_count();
     3 <= n
-        && (rest_unused(polygons, plan, p, 0, n)
-            && (corners_distinct(polygons, plan, p, n) && corners_listed(polygons, plan, p, n)))
+        && (rest_unused(polygon, 0, n)
+            && (corners_distinct(polygon, n) && corners_listed(polygon, vertices, n)))
 }
 
-// Edge j of polygon q runs from b to a and has p across it.
-fn is_back(polygons: &[u8], plan: &[u32; PLAN], q: usize, p: u32, a: u32, b: u32, j: usize) -> bool
-    requires { Lies plan.now polygons.now q × (j < slots_in plan.now) }
-    ensures { result ≡ is_back (record_in plan.now polygons.now q) p a b j }
+// Edge j of a polygon runs from b to a and has p across it.
+#[tactic(auto, unfolding(crate::specs::Tests::is_back))]
+fn is_back(polygon: &StoredPolygon, p: u32, a: u32, b: u32, j: usize) -> bool
+    requires { j < length polygon.now.corners }
+    ensures { result ≡ is_back polygon.now p a b j }
 {
-    corner(polygons, plan, q, j) == b
-        && (corner_after(polygons, plan, q, j) == a && neighbour(polygons, plan, q, j) == p)
+    polygon.corner(j) == b && (polygon.corner_after(j) == a && polygon.neighbour(j) == p)
 }
 
-// 6: one of q's edges runs from b to a and has p across it. The look ends at q's first unused slot, so that its
+// 6: one of a polygon's edges runs from b to a and has p across it. The look ends at the first unused slot, so that the
 // corners are not counted for every link.
-fn names_back(polygons: &[u8], plan: &[u32; PLAN], q: usize, p: u32, a: u32, b: u32) -> bool
-    requires { Lies plan.now polygons.now q }
-    ensures { result ≡ names_back (record_in plan.now polygons.now q) p a b }
+fn names_back(polygon: &StoredPolygon, p: u32, a: u32, b: u32) -> bool
+    ensures { result ≡ names_back polygon.now p a b }
 {
-    let slots = plan::slots(plan);
-    let mut j = 0;
-    while j < slots {
-        if corner(polygons, plan, q, j) == UNUSED {
+    for j in 0..polygon.slots() {
+        if polygon.corner(j) == UNUSED {
             return false;
         }
-        if is_back(polygons, plan, q, p, a, b, j) {
+        if is_back(polygon, p, a, b, j) {
             return true;
         }
-        j += 1;
     }
     false
 }
 
 // 6: across edge i of polygon p stands a wall, or another listed polygon that names p back.
-fn link_right(polygons: &[u8], plan: &[u32; PLAN], p: usize, i: usize) -> bool
+fn link_right(polygons: &[u8], plan: &Plan, p: usize, i: usize) -> bool
     requires { PolygonsPlanned plan.now polygons.now × (p < polygon_count_in plan.now) × (i < slots_in plan.now) }
     ensures { result ≡ link_right (polygons_in plan.now polygons.now) p i }
 {
-    let q = neighbour(polygons, plan, p, i);
-    if q == UNUSED {
+    let here = StoredPolygon::at(polygons, plan, p);
+    let Some(q) = here.across(i) else {
         return true;
-    }
+    };
     let q = q as usize;
     if q == p {
         return false;
     }
-    if plan::polygon_count(plan) <= q {
+    if plan.polygon_count() <= q {
         return false;
     }
-    let a = corner(polygons, plan, p, i);
-    let b = corner_after(polygons, plan, p, i);
-    names_back(polygons, plan, q, p as u32, a, b)
+    let other = StoredPolygon::at(polygons, plan, q);
+    names_back(&other, p as u32, here.corner(i), here.corner_after(i))
 }
 
 // 6: every link, and no neighbour in a slot that has no corner. The look comes to the first unused slot by itself, so that the corners are not
 // counted once more.
-pub fn links_right(polygons: &[u8], plan: &[u32; PLAN], p: usize) -> bool
+pub fn links_right(polygons: &[u8], plan: &Plan, p: usize) -> bool
     requires { PolygonsPlanned plan.now polygons.now × (p < polygon_count_in plan.now) }
     ensures { result ≡ links_right (polygons_in plan.now polygons.now) p }
 {
-    let slots = plan::slots(plan);
-    let mut i = 0;
-    while i < slots {
-        if corner(polygons, plan, p, i) == UNUSED {
-            return rest_unused(polygons, plan, p, slots, i);
+    let here = StoredPolygon::at(polygons, plan, p);
+    let slots = here.slots();
+    for i in 0..slots {
+        if here.corner(i) == UNUSED {
+            return rest_unused(&here, slots, i);
         }
         if !link_right(polygons, plan, p, i) {
             return false;
         }
-        i += 1;
     }
     true
 }

@@ -1,28 +1,23 @@
 #![tactic(auto)]
 // An f32 from its bit pattern and back, for every pattern. The machine's own from_bits and to_bits are
-// undefined at a NaN, so the two functions here step around it.
+// undefined at a NaN: std's two functions for it, with_nan by name, step around it.
 
 ghost use Rattle.std.specs.Prelude.{◌≡◌};
 ghost use Rattle.std.specs.Float.{binary32};
 ghost use Rattle.std.specs.Float.Ieee.{of_bits, to_bits};
 
+use std::num::{f32_from_bits_with_nan, f32_to_bits_with_nan};
+
 // The f32 that a bit pattern stands for. Every NaN pattern gives NaN.
 pub fn from_bits(bits: u32) -> f32
     ensures { result ≡ of_bits binary32 bits }
 {
-    let magnitude = bits % 0x8000_0000;
-    if 0x7F80_0000 < magnitude {
-        return 0.0f32 / 0.0f32;
-    }
-    f32::from_bits(bits)
+    f32_from_bits_with_nan(bits)
 }
 
 // The bit pattern of an f32. NaN gives 0x7FC00000.
 pub fn to_bits(x: f32) -> u32
     ensures { result ≡ to_bits binary32 x }
 {
-    if x != x {
-        return 0x7FC0_0000;
-    }
-    f32::to_bits(x)
+    f32_to_bits_with_nan(x)
 }

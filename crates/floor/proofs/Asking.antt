@@ -2,12 +2,14 @@
 -- Assumes nothing.
 use Prim.Native.Nat.{ℕ, ◌≤◌, ◌<◌}
 use native.Mathlib.Omega.{arith}
-use mathlib.Core.Path.{◌≡◌, refl, sym, subst}
+use mathlib.Core.Path.{◌≡◌, refl, sym, ap, ◌∙◌, subst}
 use mathlib.Core.Bool.{Bool, true, false, not, cond}
 use mathlib.Core.List.{List}
 use borrow.Author.Tests.{leb-false}
 use lib.Dec.{leb}
 use lib.ListN.{length}
+use Rattle.std.proofs.lemmas.Grind.{merely}
+use Rattle.std.specs.Prelude.{Result, Ok, Err}
 use Rattle.plan.specs.Plan.{slots_in, polygon_count_in}
 use Rattle.stored.specs.Stored.{Floor, floor_of, floor_in, question_of}
 use Rattle.stored.proofs.Records.{polygons_counted}
@@ -16,10 +18,8 @@ use Rattle.edges.specs.Where.{polygon_of}
 use Rattle.edges.specs.Ground.{Ground}
 use Rattle.floor.specs.declared.Refusal.{Refusal}
 use Rattle.floor.specs.declared.Refusal.TheVariants.{Question, StartOutside, GoalOutside}
-use Rattle.floor.specs.declared.FloorLook.{FloorLook}
-use Rattle.floor.specs.declared.FloorLook.TheVariants.{Accepted as Sound, Faulty}
-use Rattle.floor.specs.declared.Look.TheVariants.{Inside, Refused}
-use Rattle.floor.specs.Look.{floor_look_of, ask_of, ask_if, look_of, plan_after}
+use Rattle.floor.specs.declared.Inside.{Inside}
+use Rattle.floor.specs.Look.{and_then, floor_look_of, ask_of, look_of, plan_after}
 use Rattle.floor.proofs.Looked.{question_length}
 use Rattle.floor.proofs.Planned.{grounded, slots_are as slots-are-its}
 
@@ -32,19 +32,16 @@ pub record Asking (plan vs ps question : List ℕ) (from to : ℕ) : Type 0 wher
   pub from_is : polygon_of (floor_in plan vs ps) (question_of question).start ≡ from
   pub to_is : polygon_of (floor_in plan vs ps) (question_of question).goal ≡ to
 
-not_inside : {A : Type 0} (r : Refusal) (p q : ℕ) → Refused r ≡ Inside p q → A
-not_inside r p q e = let z : ◌≡◌ {A = ℕ} 0 1 = cc in absurd (omega arith)
+not_inside : {A : Type 0} (r : Refusal) (found : Inside) → Err r ≡ Ok found → A
+not_inside r found e = cc
 
-first_is : (a b p q : ℕ) → Inside a b ≡ Inside p q → a ≡ p
-first_is a b p q e = cc
+is_found : (a b : Inside) → ◌≡◌ {A = Result Inside Refusal} (Ok a) (Ok b) → a ≡ b
+is_found a b e = cc
 
-second_is : (a b p q : ℕ) → Inside a b ≡ Inside p q → b ≡ q
-second_is a b p q e = cc
-
-pub asked_inside : {plan vs ps : List ℕ} → Ground plan vs ps → (question : List ℕ) {from to : ℕ} → ask_of (floor_in plan vs ps) question ≡ Inside from to
-    → Asking plan vs ps question from to
+pub asked_inside : {plan vs ps : List ℕ} → Ground plan vs ps → (question : List ℕ) {found : Inside} → ask_of (floor_in plan vs ps) question ≡ Ok found
+    → Asking plan vs ps question found.start found.goal
 unfolding ask_of
-asked_inside {plan} {vs} {ps} g question {from} {to} e = go (question_right question) refl (leb n a) refl (leb n b) refl e
+asked_inside {plan} {vs} {ps} g question {found} e = go (question_right question) refl (leb n a) refl (leb n b) refl e
   where
     f : Floor
     f = floor_in plan vs ps
@@ -59,20 +56,24 @@ asked_inside {plan} {vs} {ps} g question {from} {to} e = go (question_right ques
     b = polygon_of f (question_of question).goal
 
     go : (x : Bool) → question_right question ≡ x → (y : Bool) → leb n a ≡ y → (z : Bool) → leb n b ≡ z
-        → cond (not x) (Refused Question) (cond y (Refused StartOutside) (cond z (Refused GoalOutside) (Inside a b))) ≡ Inside from to
-        → Asking plan vs ps question from to
-    go false r y m z l e = not_inside Question from to e
-    go true r true m z l e = not_inside StartOutside from to e
-    go true r false m true l e = not_inside GoalOutside from to e
-    go true r false m false l e = record {
-      right = r;
-      long = question_length question r;
-      from_listed = subst (λ (k : ℕ). from < k) (polygons_counted g.polygons_planned) (rw (← first_is a b from to e) (leb-false n a m));
-      to_listed = subst (λ (k : ℕ). to < k) (polygons_counted g.polygons_planned) (rw (← second_is a b from to e) (leb-false n b l));
-      few = rw g.polygons_planned.counted g.polygons_planned.few;
-      from_is = first_is a b from to e;
-      to_is = second_is a b from to e;
-    }
+        → cond (not x) (Err Question) (cond y (Err StartOutside) (cond z (Err GoalOutside) (Ok (record { start = a; goal = b })))) ≡ Ok found
+        → Asking plan vs ps question found.start found.goal
+    go false r y m z l e = not_inside Question found e
+    go true r true m z l e = not_inside StartOutside found e
+    go true r false m true l e = not_inside GoalOutside found e
+    go true r false m false l e =
+        let here : ◌≡◌ {A = Inside} (record { start = a; goal = b }) found = is_found _ _ e in
+        let from : a ≡ found.start = ap (λ (i : Inside). i.start) here in
+        let to : b ≡ found.goal = ap (λ (i : Inside). i.goal) here in
+        record {
+          right = r;
+          long = question_length question r;
+          from_listed = subst (λ (k : ℕ). found.start < k) (polygons_counted g.polygons_planned) (rw (← from) (leb-false n a m));
+          to_listed = subst (λ (k : ℕ). found.goal < k) (polygons_counted g.polygons_planned) (rw (← to) (leb-false n b l));
+          few = rw g.polygons_planned.counted g.polygons_planned.few;
+          from_is = from;
+          to_is = to;
+        }
 
 -- ---- after a look at a floor and a question
 
@@ -82,19 +83,19 @@ pub record Looked (slots : ℕ) (plan vs ps question : List ℕ) (from to : ℕ)
   pub slots_are : slots_in plan ≡ slots
   pub asking : Asking plan vs ps question from to
 
-module _ (s : ℕ) (vs ps question : List ℕ) (some : 0 < s) (few : s ≤ 16) {from to : ℕ} where
-  -- the floor is sound, and the question is answered so
-  both : look_of s vs ps question ≡ Inside from to → (floor_look_of s vs ps ≡ Sound) × (ask_of (floor_of s vs ps) question ≡ Inside from to)
+module _ (s : ℕ) (vs ps question : List ℕ) (some : 0 < s) (few : s ≤ 16) {found : Inside} where
+  -- the floor is accepted, and the question is answered so
+  both : look_of s vs ps question ≡ Ok found → (floor_look_of s vs ps ≡ Ok tt) × (ask_of (floor_of s vs ps) question ≡ Ok found)
   unfolding look_of
   both e = go (floor_look_of s vs ps) refl e
     where
-      go : (look : FloorLook) → floor_look_of s vs ps ≡ look → ask_if look (ask_of (floor_of s vs ps) question) ≡ Inside from to
-          → (floor_look_of s vs ps ≡ Sound) × (ask_of (floor_of s vs ps) question ≡ Inside from to)
-      go Sound h e = (h, e)
-      go (Faulty r) h e = not_inside r from to e
+      go : (look : Result Unit Refusal) → floor_look_of s vs ps ≡ look → and_then look (ask_of (floor_of s vs ps) question) ≡ Ok found
+          → (floor_look_of s vs ps ≡ Ok tt) × (ask_of (floor_of s vs ps) question ≡ Ok found)
+      go (Ok tt) h e = (h, e)
+      go (Err r) h e = not_inside r found e
 
-  pub looked_inside : look_of s vs ps question ≡ Inside from to → (before : List ℕ) {plan : List ℕ} → plan ≡ plan_after s vs ps before
-      → Looked s plan vs ps question from to
+  pub looked_inside : look_of s vs ps question ≡ Ok found → (before : List ℕ) {plan : List ℕ} → plan ≡ plan_after s vs ps before
+      → Looked s plan vs ps question found.start found.goal
   looked_inside e before {plan} after =
       let h = both e in
       let on = grounded s vs ps some few h.0 before after in
@@ -102,5 +103,23 @@ module _ (s : ℕ) (vs ps question : List ℕ) (some : 0 < s) (few : s ≤ 16) {
       record {
         ground = on;
         slots_are = slots;
-        asking = asked_inside on question (subst (λ (k : ℕ). ask_of (floor_of k vs ps) question ≡ Inside from to) (sym slots) h.1);
+        asking = asked_inside on question (subst (λ (k : ℕ). ask_of (floor_of k vs ps) question ≡ Ok found) (sym slots) h.1);
       }
+
+-- ---- the ground that whoever has looked builds an accepted floor on
+
+-- after a look at a floor
+pub looked_ground : {plan vs ps : List ℕ} {look : Result Unit Refusal} → look ≡ floor_look_of 8 vs ps → look ≡ Ok tt
+    → (before : List ℕ) → plan ≡ plan_after 8 vs ps before → Ground plan vs ps
+looked_ground {plan} {vs} {ps} told e before after = grounded 8 vs ps (omega arith) (omega arith) (sym told ∙ e) before after
+
+-- as an accepted floor holds it
+pub looked_held : {plan vs ps : List ℕ} {look : Result Unit Refusal} → look ≡ floor_look_of 8 vs ps → look ≡ Ok tt
+    → (before : List ℕ) → plan ≡ plan_after 8 vs ps before → ∥ Ground plan vs ps ∥₁
+looked_held told e before after = merely (looked_ground told e before after)
+
+-- after a look at a floor and a question
+pub asked_ground : {plan vs ps : List ℕ} (question : List ℕ) {answer : Result Inside Refusal} {found : Inside} → answer ≡ look_of 8 vs ps question
+    → answer ≡ Ok found → (before : List ℕ) → plan ≡ plan_after 8 vs ps before → Ground plan vs ps
+asked_ground {plan} {vs} {ps} question told e before after =
+    (looked_inside 8 vs ps question (omega arith) (omega arith) (sym told ∙ e) before after).ground

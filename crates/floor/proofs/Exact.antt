@@ -11,6 +11,7 @@ use mathlib.Core.Logic.{◌↔◌}
 use borrow.Author.Tests.{ltb-true, ltb-false, lt-ltb, le-ltb, leb-true, leb-false, le-leb, lt-leb, not-true, not-false}
 use lib.Dec.{T, ltb, leb}
 use lib.ListN.{length, get_or}
+use Rattle.std.specs.Prelude.{Result, Ok, Err}
 use Rattle.counts.specs.Counts.{Least, TellsLowest}
 use Rattle.counts.proofs.Decides.{holds_not, not_holds, every_decides, first_tells_fault, first_is_least, least_is_first, some_is_so}
 use Rattle.float.proofs.Tests.{untrue}
@@ -20,15 +21,14 @@ use Rattle.point.specs.declared.EdgeSide.TheVariants.{Left, Right, Edge}
 use Rattle.point.specs.Sides.{side_of, same_side_of}
 use Rattle.floor.specs.declared.Refusal.TheVariants.{VertexLength, PolygonLength, Vertex, Corners as CornersFault, Links as LinksFault}
 use Rattle.floor.specs.declared.Refusal.TheVariants.{Question, StartOutside, GoalOutside}
-use Rattle.floor.specs.declared.FloorLook.{FloorLook}
-use Rattle.floor.specs.declared.FloorLook.TheVariants.{Accepted as Sound, Faulty}
-use Rattle.floor.specs.declared.Look.{Look}
-use Rattle.floor.specs.declared.Look.TheVariants.{Inside, Refused}
+use Rattle.floor.specs.declared.Refusal.{Refusal}
+use Rattle.floor.specs.declared.Inside.{Inside}
 use Rattle.stored.specs.Stored.{Floor, origin, floor_of, question_of, polygon, edge, corner_count}
 use Rattle.faults.specs.Tests.{length_right, point_right, corners_right, links_right, question_right}
 use Rattle.faults.specs.Accepted.{Links}
 use Rattle.edges.specs.Where.{contains, polygon_of}
-use Rattle.floor.specs.Look.{bad_vertex, bad_corners, bad_links, records_look_of, corners_look_of, links_look_of, and_then, floor_look_of, ask_if, ask_of, look_of}
+use Rattle.floor.specs.Look.{bad_vertex, bad_corners, bad_links, vertices_look_of, polygons_look_of, records_look_of, corners_look_of, links_look_of}
+use Rattle.floor.specs.Look.{and_then, floor_look_of, ask_of, look_of}
 use Rattle.floor.specs.Exactly.{Whole, Lists, VertexRight, CornersRight, Asked, Contains, InSome, FloorCase, Case}
 use Rattle.faults.proofs.Decided.{both, through, equal, length_decided, point_decided, corners_decided, links_decided}
 
@@ -69,7 +69,7 @@ module _ (f : Floor) where
 
   module _ (point : Point) where
     pub contains_decided : (p : ℕ) → contains f point p ≡ true ↔ Contains f point p
-    unfolding contains
+    unfolding contains edge
     contains_decided p =
         every_decides (corner_count (polygon f p)) (λ i. not (same_side_of (side_of point (edge f p i)) Right)) (λ i. ¬ (side_of point (edge f p i) ≡ Right))
         (λ i l. side_decided (side_of point (edge f p i)))
@@ -108,23 +108,24 @@ module _ (s : ℕ) (vs ps : List ℕ) where
   f = floor_of s vs ps
 
   floor_given : FloorCase s vs ps (floor_look_of s vs ps)
-  unfolding floor_look_of corners_look_of records_look_of links_look_of
+  unfolding floor_look_of corners_look_of records_look_of vertices_look_of polygons_look_of links_look_of
   floor_given =
       let v = bad_vertex f.vertices in
       let p = bad_corners (length f.vertices) f.polygons in
       let q = bad_links f.polygons in
-      let P : FloorLook → Type 0 = λ a. FloorCase s vs ps (and_then a (links_look_of f.polygons)) in
-      when P (not (length_right 8 1024 vs)) (Faulty VertexLength) (λ e. holds_not (whole_decided 8 1024 vs) (not-true _ e)) (λ a.
+      let P : Result Unit Refusal → Type 0 = λ a. FloorCase s vs ps (and_then a (links_look_of f.polygons)) in
+      let Q : Result Unit Refusal → Type 0 = λ a. P (and_then a (polygons_look_of (length f.vertices) f.polygons)) in
+      when P (not (length_right 8 1024 vs)) (Err VertexLength) (λ e. holds_not (whole_decided 8 1024 vs) (not-true _ e)) (λ a.
       let w = (whole_decided 8 1024 vs).0 (not-false _ a) in
-      when P (not (length_right (s * 8) 512 ps)) (Faulty PolygonLength) (λ e. (w, holds_not (whole_decided (s * 8) 512 ps) (not-true _ e))) (λ b.
+      when P (not (length_right (s * 8) 512 ps)) (Err PolygonLength) (λ e. (w, holds_not (whole_decided (s * 8) 512 ps) (not-true _ e))) (λ b.
       let lists : Lists s vs ps = record { vertices_whole = w; polygons_whole = (whole_decided (s * 8) 512 ps).0 (not-false _ b) } in
-      when P (ltb v (length f.vertices)) (Faulty (Vertex v)) (λ e. (lists, (vertices_told f).lowest (ltb-true _ _ e))) (λ c.
+      when Q (ltb v (length f.vertices)) (Err (Vertex v)) (λ e. (lists, (vertices_told f).lowest (ltb-true _ _ e))) (λ c.
       let vertices = (vertices_told f).none.0 (ltb-false _ _ c) in
-      when P (ltb p (length f.polygons)) (Faulty (CornersFault p)) (λ e. (lists, vertices, (corners_told f).lowest (ltb-true _ _ e))) (λ d.
+      when P (ltb p (length f.polygons)) (Err (CornersFault p)) (λ e. (lists, vertices, (corners_told f).lowest (ltb-true _ _ e))) (λ d.
       let corners = (corners_told f).none.0 (ltb-false _ _ d) in
-      when (FloorCase s vs ps) (ltb q (length f.polygons)) (Faulty (LinksFault q))
+      when (FloorCase s vs ps) (ltb q (length f.polygons)) (Err (LinksFault q))
       (λ e. (lists, vertices, corners, (links_told f).lowest (ltb-true _ _ e))) (λ g.
-      let accepted : FloorCase s vs ps Sound = (lists, record { vertices = vertices; corners = corners; links = (links_told f).none.0 (ltb-false _ _ g) }) in
+      let accepted : FloorCase s vs ps (Ok tt) = (lists, record { vertices = vertices; corners = corners; links = (links_told f).none.0 (ltb-false _ _ g) }) in
       accepted)))))
 
   -- ---- and in its case each is given
@@ -132,17 +133,17 @@ module _ (s : ℕ) (vs ps : List ℕ) where
   lists_right : Lists s vs ps → (length_right 8 1024 vs ≡ true) × (length_right (s * 8) 512 ps ≡ true)
   lists_right l = ((whole_decided 8 1024 vs).1 l.vertices_whole, (whole_decided (s * 8) 512 ps).1 l.polygons_whole)
 
-  floor_found : (a : FloorLook) → FloorCase s vs ps a → floor_look_of s vs ps ≡ a
-  unfolding floor_look_of corners_look_of records_look_of links_look_of
-  floor_found (Faulty VertexLength) h = rw (not_holds _ (whole_decided 8 1024 vs) h)
-  floor_found (Faulty PolygonLength) h = rw ((whole_decided 8 1024 vs).1 h.0, not_holds _ (whole_decided (s * 8) 512 ps) h.1)
-  floor_found (Faulty (Vertex v)) h =
+  floor_found : (a : Result Unit Refusal) → FloorCase s vs ps a → floor_look_of s vs ps ≡ a
+  unfolding floor_look_of corners_look_of records_look_of vertices_look_of polygons_look_of links_look_of
+  floor_found (Err VertexLength) h = rw (not_holds _ (whole_decided 8 1024 vs) h)
+  floor_found (Err PolygonLength) h = rw ((whole_decided 8 1024 vs).1 h.0, not_holds _ (whole_decided (s * 8) 512 ps) h.1)
+  floor_found (Err (Vertex v)) h =
       let l = lists_right h.0 in
       rw (l.0, l.1, (vertices_told f).is_lowest v h.1, lt-ltb _ _ h.1.listed)
-  floor_found (Faulty (CornersFault p)) h =
+  floor_found (Err (CornersFault p)) h =
       let l = lists_right h.0 in
       rw (l.0, l.1, le-ltb _ _ ((vertices_told f).none.1 h.1), (corners_told f).is_lowest p h.2, lt-ltb _ _ h.2.listed)
-  floor_found (Faulty (LinksFault p)) h =
+  floor_found (Err (LinksFault p)) h =
       let l = lists_right h.0 in
       rw (
         l.0,
@@ -152,7 +153,7 @@ module _ (s : ℕ) (vs ps : List ℕ) where
         (links_told f).is_lowest p h.3,
         lt-ltb _ _ h.3.listed,
       )
-  floor_found Sound h =
+  floor_found (Ok tt) h =
       let l = lists_right h.0 in
       rw (
         l.0,
@@ -161,11 +162,11 @@ module _ (s : ℕ) (vs ps : List ℕ) where
         le-ltb _ _ ((corners_told f).none.1 h.1.corners),
         le-ltb _ _ ((links_told f).none.1 h.1.links),
       )
-  floor_found (Faulty Question) h = absurd h
-  floor_found (Faulty StartOutside) h = absurd h
-  floor_found (Faulty GoalOutside) h = absurd h
+  floor_found (Err Question) h = absurd h
+  floor_found (Err StartOutside) h = absurd h
+  floor_found (Err GoalOutside) h = absurd h
 
-  pub floor_exactly : (a : FloorLook) → floor_look_of s vs ps ≡ a ↔ FloorCase s vs ps a
+  pub floor_exactly : (a : Result Unit Refusal) → floor_look_of s vs ps ≡ a ↔ FloorCase s vs ps a
   floor_exactly a = ((λ e. subst (FloorCase s vs ps) e floor_given), floor_found a)
 
   -- ---- a floor and a question
@@ -177,14 +178,14 @@ module _ (s : ℕ) (vs ps : List ℕ) where
     abbrev goal : Point
     goal = (question_of question).goal
 
-    asked_given : FloorCase s vs ps Sound → Case s vs ps question (ask_of f question)
+    asked_given : FloorCase s vs ps (Ok tt) → Case s vs ps question (ask_of f question)
     unfolding ask_of
     asked_given h =
-        when (Case s vs ps question) (not (question_right question)) (Refused Question) (λ e. (h, holds_not (asked_decided question) (not-true _ e))) (λ a.
+        when (Case s vs ps question) (not (question_right question)) (Err Question) (λ e. (h, holds_not (asked_decided question) (not-true _ e))) (λ a.
         let asked = (asked_decided question).0 (not-false _ a) in
-        when (Case s vs ps question) (leb (length f.polygons) (polygon_of f start)) (Refused StartOutside)
+        when (Case s vs ps question) (leb (length f.polygons) (polygon_of f start)) (Err StartOutside)
         (λ e. (h, asked, λ i. past ((in_some f start).1 i) (leb-true _ _ e))) (λ b.
-        when (Case s vs ps question) (leb (length f.polygons) (polygon_of f goal)) (Refused GoalOutside)
+        when (Case s vs ps question) (leb (length f.polygons) (polygon_of f goal)) (Err GoalOutside)
         (λ e. (h, asked, (in_some f start).0 (leb-false _ _ b), λ i. past ((in_some f goal).1 i) (leb-true _ _ e))) (λ c.
         (h, asked, polygon_is_least f start (leb-false _ _ b), polygon_is_least f goal (leb-false _ _ c)))))
 
@@ -192,41 +193,41 @@ module _ (s : ℕ) (vs ps : List ℕ) where
     unfolding look_of
     given = go (floor_look_of s vs ps) floor_given
       where
-        go : (a : FloorLook) → FloorCase s vs ps a → Case s vs ps question (ask_if a (ask_of f question))
-        go Sound h = asked_given h
-        go (Faulty VertexLength) h = h
-        go (Faulty PolygonLength) h = h
-        go (Faulty (Vertex v)) h = h
-        go (Faulty (CornersFault p)) h = h
-        go (Faulty (LinksFault p)) h = h
-        go (Faulty Question) h = absurd h
-        go (Faulty StartOutside) h = absurd h
-        go (Faulty GoalOutside) h = absurd h
+        go : (a : Result Unit Refusal) → FloorCase s vs ps a → Case s vs ps question (and_then a (ask_of f question))
+        go (Ok tt) h = asked_given h
+        go (Err VertexLength) h = h
+        go (Err PolygonLength) h = h
+        go (Err (Vertex v)) h = h
+        go (Err (CornersFault p)) h = h
+        go (Err (LinksFault p)) h = h
+        go (Err Question) h = absurd h
+        go (Err StartOutside) h = absurd h
+        go (Err GoalOutside) h = absurd h
 
-    found : (a : Look) → Case s vs ps question a → look_of s vs ps question ≡ a
+    found : (a : Result Inside Refusal) → Case s vs ps question a → look_of s vs ps question ≡ a
     unfolding look_of ask_of
-    found (Refused VertexLength) h = rw (floor_found (Faulty VertexLength) h)
-    found (Refused PolygonLength) h = rw (floor_found (Faulty PolygonLength) h)
-    found (Refused (Vertex v)) h = rw (floor_found (Faulty (Vertex v)) h)
-    found (Refused (CornersFault p)) h = rw (floor_found (Faulty (CornersFault p)) h)
-    found (Refused (LinksFault p)) h = rw (floor_found (Faulty (LinksFault p)) h)
-    found (Refused Question) h = rw (floor_found Sound h.0, not_holds _ (asked_decided question) h.1)
-    found (Refused StartOutside) h = rw (floor_found Sound h.0, (asked_decided question).1 h.1, le-leb _ _ (outside f start h.2))
-    found (Refused GoalOutside) h =
-        rw (floor_found Sound h.0, (asked_decided question).1 h.1, lt-leb _ _ ((in_some f start).1 h.2), le-leb _ _ (outside f goal h.3))
-    found (Inside a b) h =
+    found (Err VertexLength) h = rw (floor_found (Err VertexLength) h)
+    found (Err PolygonLength) h = rw (floor_found (Err PolygonLength) h)
+    found (Err (Vertex v)) h = rw (floor_found (Err (Vertex v)) h)
+    found (Err (CornersFault p)) h = rw (floor_found (Err (CornersFault p)) h)
+    found (Err (LinksFault p)) h = rw (floor_found (Err (LinksFault p)) h)
+    found (Err Question) h = rw (floor_found (Ok tt) h.0, not_holds _ (asked_decided question) h.1)
+    found (Err StartOutside) h = rw (floor_found (Ok tt) h.0, (asked_decided question).1 h.1, le-leb _ _ (outside f start h.2))
+    found (Err GoalOutside) h =
+        rw (floor_found (Ok tt) h.0, (asked_decided question).1 h.1, lt-leb _ _ ((in_some f start).1 h.2), le-leb _ _ (outside f goal h.3))
+    found (Ok inside) h =
         rw (
-          floor_found Sound h.0,
+          floor_found (Ok tt) h.0,
           (asked_decided question).1 h.1,
-          least_is_polygon f start a h.2,
+          least_is_polygon f start inside.start h.2,
           lt-leb _ _ h.2.listed,
-          least_is_polygon f goal b h.3,
+          least_is_polygon f goal inside.goal h.3,
           lt-leb _ _ h.3.listed,
         )
 
-    pub each_exactly : (a : Look) → look_of s vs ps question ≡ a ↔ Case s vs ps question a
+    pub each_exactly : (a : Result Inside Refusal) → look_of s vs ps question ≡ a ↔ Case s vs ps question a
     each_exactly a = ((λ e. subst (Case s vs ps question) e given), found a)
 
     -- the cases leave no second answer
-    pub one_case : (a b : Look) → Case s vs ps question a → Case s vs ps question b → a ≡ b
+    pub one_case : (a b : Result Inside Refusal) → Case s vs ps question a → Case s vs ps question b → a ≡ b
     one_case a b h k = sym (found a h) ∙ found b k

@@ -5,7 +5,7 @@ use mathlib.Core.Bool.{true}
 use mathlib.Core.List.{List}
 use mathlib.Core.Logic.{◌↔◌}
 use lib.ListN.{length}
-use Rattle.floor.specs.declared.FloorLook.TheVariants.{Accepted as Sound}
+use Rattle.std.specs.Prelude.{Ok}
 use Rattle.stored.specs.Stored.{floor_of}
 use Rattle.faults.specs.Tests.{length_right, question_right}
 use Rattle.faults.specs.Accepted.{Accepted}
@@ -14,12 +14,12 @@ use Rattle.floor.proofs.Exact.{whole_decided, asked_decided, floor_exactly}
 
 -- the lists' lengths as the tests have them
 pub look_accepts : (s : ℕ) (vs ps : List ℕ)
-    → (floor_look_of s vs ps ≡ Sound) ↔ ((length_right 8 1024 vs ≡ true) × ((length_right (s * 8) 512 ps ≡ true) × Accepted (floor_of s vs ps)))
+    → (floor_look_of s vs ps ≡ Ok tt) ↔ ((length_right 8 1024 vs ≡ true) × ((length_right (s * 8) 512 ps ≡ true) × Accepted (floor_of s vs ps)))
 look_accepts s vs ps =
     let vertices = whole_decided 8 1024 vs in
     let polygons = whole_decided (s * 8) 512 ps in (
-      (λ e. let h = (floor_exactly s vs ps Sound).0 e in (vertices.1 h.0.vertices_whole, (polygons.1 h.0.polygons_whole, h.1))),
-      (λ h. (floor_exactly s vs ps Sound).1 (record { vertices_whole = vertices.0 h.0; polygons_whole = polygons.0 h.1.0 }, h.1.1)),
+      (λ e. let h = (floor_exactly s vs ps (Ok tt)).0 e in (vertices.1 h.0.vertices_whole, (polygons.1 h.0.polygons_whole, h.1))),
+      (λ h. (floor_exactly s vs ps (Ok tt)).1 (record { vertices_whole = vertices.0 h.0; polygons_whole = polygons.0 h.1.0 }, h.1.1)),
     )
 
 pub question_length : (question : List ℕ) → question_right question ≡ true → length question ≡ 16

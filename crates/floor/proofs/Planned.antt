@@ -1,12 +1,13 @@
 -- The plan along a look: laid where the lists' lengths are right, then the corners of every polygon are, then the turn vertices are marked, and it is
 -- the plan of the ground that an accepted floor is. Assumes nothing.
 use Prim.Native.Nat.{ℕ, ◌*◌, ◌/◌, ◌≤◌, ◌<◌}
-use mathlib.Core.Path.{◌≡◌, sym, ap, ◌∙◌, subst}
+use mathlib.Core.Path.{◌≡◌, refl, sym, ap, ◌∙◌, subst}
 use mathlib.Core.Bool.{not}
 use mathlib.Core.List.{List}
 use borrow.Author.Tests.{not-false, ltb-false}
 use lib.Dec.{ltb}
 use lib.ListN.{length}
+use Rattle.std.specs.Prelude.{Result, Ok, Err}
 use Rattle.plan.specs.Plan.{slots_in, vertex_count_in, polygon_count_in, laid}
 use Rattle.plan.proofs.Laws.{laid_slots, laid_vertices}
 use Rattle.stored.specs.Stored.{Floor, record_in, polygons_of, polygons_in, floor_of, VerticesPlanned, PolygonsPlanned}
@@ -17,10 +18,9 @@ use Rattle.edges.specs.Where.{turns_marked, plan_of}
 use Rattle.edges.specs.Ground.{Ground}
 use Rattle.edges.proofs.Turned.{laid_planned, plan_slots, ground}
 use Rattle.floor.specs.declared.Refusal.{Refusal}
-use Rattle.floor.specs.declared.FloorLook.{FloorLook}
-use Rattle.floor.specs.declared.FloorLook.TheVariants.{Accepted as Sound, Faulty}
 use Rattle.floor.specs.declared.Refusal.TheVariants.{VertexLength, PolygonLength, Vertex, Corners as CornersFault}
-use Rattle.floor.specs.Look.{bad_vertex, bad_corners, records_look_of, corners_look_of, links_look_of, floor_look_of, laid_after, plan_if, plan_after}
+use Rattle.floor.specs.Look.{bad_vertex, bad_corners, vertices_look_of, polygons_look_of, records_look_of, corners_look_of, links_look_of, and_then}
+use Rattle.floor.specs.Look.{floor_look_of, laid_after, plan_if, plan_after}
 use Rattle.floor.specs.Exactly.{Lists, CornersRight}
 use Rattle.floor.proofs.Exact.{when, whole_decided, corners_told, floor_exactly}
 
@@ -48,30 +48,31 @@ module _ (s : ℕ) (vs ps : List ℕ) where
   -- ---- after 2 to 5
 
   -- what is known where nothing is at fault so far
-  abbrev CornersCase : FloorLook → Type 0
-  CornersCase Sound = Lists s vs ps × ((p : ℕ) → p < length f.polygons → CornersRight f p)
-  CornersCase (Faulty r) = Unit {0}
+  abbrev CornersCase : Result Unit Refusal → Type 0
+  CornersCase (Ok tt) = Lists s vs ps × ((p : ℕ) → p < length f.polygons → CornersRight f p)
+  CornersCase (Err r) = Unit {0}
 
   corners_given : CornersCase (corners_look_of s vs ps)
-  unfolding corners_look_of records_look_of
+  unfolding corners_look_of records_look_of vertices_look_of polygons_look_of
   corners_given =
       let p = bad_corners (length f.vertices) f.polygons in
-      when CornersCase (not (length_right 8 1024 vs)) (Faulty VertexLength) (λ e. tt) (λ a.
-      when CornersCase (not (length_right (s * 8) 512 ps)) (Faulty PolygonLength) (λ e. tt) (λ b.
+      let P : Result Unit Refusal → Type 0 = λ a. CornersCase (and_then a (polygons_look_of (length f.vertices) f.polygons)) in
+      when CornersCase (not (length_right 8 1024 vs)) (Err VertexLength) (λ e. tt) (λ a.
+      when CornersCase (not (length_right (s * 8) 512 ps)) (Err PolygonLength) (λ e. tt) (λ b.
       let lists : Lists s vs ps = record {
         vertices_whole = (whole_decided 8 1024 vs).0 (not-false _ a);
         polygons_whole = (whole_decided (s * 8) 512 ps).0 (not-false _ b);
       } in
-      when CornersCase (ltb (bad_vertex f.vertices) (length f.vertices)) (Faulty (Vertex (bad_vertex f.vertices))) (λ e. tt) (λ c.
-      when CornersCase (ltb p (length f.polygons)) (Faulty (CornersFault p)) (λ e. tt) (λ d. (lists, (corners_told f).none.0 (ltb-false _ _ d))))))
+      when P (ltb (bad_vertex f.vertices) (length f.vertices)) (Err (Vertex (bad_vertex f.vertices))) (λ e. tt) (λ c.
+      when CornersCase (ltb p (length f.polygons)) (Err (CornersFault p)) (λ e. tt) (λ d. (lists, (corners_told f).none.0 (ltb-false _ _ d))))))
 
   pub lists_right : Lists s vs ps → (before : List ℕ) → laid_after s vs ps before ≡ bare
   unfolding laid_after
   lists_right l before = rw ((whole_decided 8 1024 vs).1 l.vertices_whole, (whole_decided (s * 8) 512 ps).1 l.polygons_whole)
 
-  module _ (some : 0 < s) (few : s ≤ 16) {look : FloorLook} (told : look ≡ corners_look_of s vs ps) (e : look ≡ Sound) (before : List ℕ)
+  module _ (some : 0 < s) (few : s ≤ 16) {look : Result Unit Refusal} (told : look ≡ corners_look_of s vs ps) (e : look ≡ Ok tt) (before : List ℕ)
       {plan : List ℕ} (after : plan ≡ laid_after s vs ps before) where
-    known : CornersCase Sound
+    known : CornersCase (Ok tt)
     known = subst CornersCase (sym told ∙ e) corners_given
 
     laid_now : plan ≡ bare
@@ -101,9 +102,6 @@ module _ (s : ℕ) (vs ps : List ℕ) where
     unfolding floor_look_of
     links_are = rw (sym told ∙ e) (ap (λ (k : ℕ). links_look_of (polygons_of k ps)) (slots_laid laid_now))
 
-    pub links_told : {found : FloorLook} → found ≡ links_look_of (polygons_in plan ps) → found ≡ floor_look_of s vs ps
-    links_told l = l ∙ links_are
-
     plan_is : plan_if (links_look_of (polygons_in plan ps)) (turns_marked (polygons_in plan ps) plan) plan ≡ plan_after s vs ps before
     unfolding plan_after plan_of
     plan_is =
@@ -115,9 +113,14 @@ module _ (s : ℕ) (vs ps : List ℕ) where
         → now ≡ plan_after s vs ps before
     plan_told l = l ∙ plan_is
 
+  -- the look at the links is the floor's where nothing was found before
+  pub links_told : 0 < s → s ≤ 16 → corners_look_of s vs ps ≡ Ok tt → (before : List ℕ)
+      → links_look_of (polygons_in (laid_after s vs ps before) ps) ≡ floor_look_of s vs ps
+  links_told some few e before = links_are some few refl e before refl
+
   -- a fault that was found before 6 stays
-  module _ {look : FloorLook} (told : look ≡ corners_look_of s vs ps) {r : Refusal} (e : look ≡ Faulty r) where
-    pub fault_told : Faulty r ≡ floor_look_of s vs ps
+  module _ {look : Result Unit Refusal} (told : look ≡ corners_look_of s vs ps) {r : Refusal} (e : look ≡ Err r) where
+    pub fault_told : Err r ≡ floor_look_of s vs ps
     unfolding floor_look_of
     fault_told = rw (sym told ∙ e)
 
@@ -127,16 +130,16 @@ module _ (s : ℕ) (vs ps : List ℕ) where
 
   -- ---- after the look
 
-  module _ (some : 0 < s) (few : s ≤ 16) (e : floor_look_of s vs ps ≡ Sound) (before : List ℕ) {plan : List ℕ} (after : plan ≡ plan_after s vs ps before) where
+  module _ (some : 0 < s) (few : s ≤ 16) (e : floor_look_of s vs ps ≡ Ok tt) (before : List ℕ) {plan : List ℕ} (after : plan ≡ plan_after s vs ps before) where
     pub its_plan : plan ≡ plan_of s vs ps
     unfolding plan_after
-    its_plan = after ∙ ap (λ (a : FloorLook). plan_if a (plan_of s vs ps) (laid_after s vs ps before)) e
+    its_plan = after ∙ ap (λ (a : Result Unit Refusal). plan_if a (plan_of s vs ps) (laid_after s vs ps before)) e
 
     pub slots_are : slots_in plan ≡ s
     slots_are = ap slots_in its_plan ∙ plan_slots s vs ps
 
     pub grounded : Ground plan vs ps
     grounded =
-        let h = (floor_exactly s vs ps Sound).0 e in
+        let h = (floor_exactly s vs ps (Ok tt)).0 e in
         subst (λ (l : List ℕ). Ground l vs ps) (sym its_plan)
         (ground s vs ps some few h.0.vertices_whole.some h.0.vertices_whole.few h.0.polygons_whole.few h.1)

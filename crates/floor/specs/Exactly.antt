@@ -1,17 +1,15 @@
 -- Document 01, "Numbers that come back": the case of each answer to a floor and a question, in its words. "Each number is given exactly in its case" is
 -- proved in proofs/Exact. "Tests .. run in table order, each over all records before the next": in each case all that is tested earlier is right.
 -- Assumes nothing.
-use Rattle.std.specs.Prelude.{ℕ, ◌/◌, ◌%◌, ◌≤◌, ◌<◌, ◌≡◌, List, length, get_or}
+use Rattle.std.specs.Prelude.{ℕ, ◌/◌, ◌%◌, ◌≤◌, ◌<◌, ◌≡◌, List, Result, Ok, Err, length, get_or}
 use Rattle.counts.specs.Counts.{Lowest, Least}
 use Rattle.point.specs.declared.Point.{Point}
 use Rattle.point.specs.declared.EdgeSide.TheVariants.{Right}
 use Rattle.point.specs.Sides.{side_of}
 use Rattle.floor.specs.declared.Refusal.TheVariants.{VertexLength, PolygonLength, Vertex, Corners as CornersFault, Links as LinksFault}
 use Rattle.floor.specs.declared.Refusal.TheVariants.{Question, StartOutside, GoalOutside}
-use Rattle.floor.specs.declared.FloorLook.{FloorLook}
-use Rattle.floor.specs.declared.FloorLook.TheVariants.{Accepted as Sound, Faulty}
-use Rattle.floor.specs.declared.Look.{Look}
-use Rattle.floor.specs.declared.Look.TheVariants.{Inside, Refused}
+use Rattle.floor.specs.declared.Refusal.{Refusal}
+use Rattle.floor.specs.declared.Inside.{Inside}
 use Rattle.plan.specs.Plan.{most_vertices, most_polygons}
 use Rattle.stored.specs.Stored.{Floor, vertex_bytes, polygon_bytes, origin, floor_of, question_of, polygon, edge, corner_count}
 use Rattle.faults.specs.Accepted.{InRange, Corners, Links, Accepted}
@@ -65,19 +63,19 @@ module _ (slots : ℕ) (vertices polygons : List ℕ) where
   abbrev polygon_count : ℕ
   polygon_count = length floor.polygons
 
-  -- 2 to 6, of a floor alone. "4, 5, 6 .. also return the lowest record at fault". `Sound` is the answer Accepted, `Accepted` what 01 asks of a floor.
-  abbrev pub FloorCase : FloorLook → Type 0
-  FloorCase (Faulty VertexLength) = ¬ Whole vertex_bytes most_vertices vertices
-  FloorCase (Faulty PolygonLength) = Whole vertex_bytes most_vertices vertices × ¬ Whole (polygon_bytes slots) most_polygons polygons
-  FloorCase (Faulty (Vertex v)) = Lists slots vertices polygons × Lowest vertex_count (VertexRight floor) v
-  FloorCase (Faulty (CornersFault p)) = Lists slots vertices polygons × All vertex_count (VertexRight floor) × Lowest polygon_count (CornersRight floor) p
-  FloorCase (Faulty (LinksFault p)) =
+  -- 2 to 6, of a floor alone. "4, 5, 6 .. also return the lowest record at fault". `Ok` is the answer, `Accepted` what 01 asks of a floor.
+  abbrev pub FloorCase : Result Unit Refusal → Type 0
+  FloorCase (Err VertexLength) = ¬ Whole vertex_bytes most_vertices vertices
+  FloorCase (Err PolygonLength) = Whole vertex_bytes most_vertices vertices × ¬ Whole (polygon_bytes slots) most_polygons polygons
+  FloorCase (Err (Vertex v)) = Lists slots vertices polygons × Lowest vertex_count (VertexRight floor) v
+  FloorCase (Err (CornersFault p)) = Lists slots vertices polygons × All vertex_count (VertexRight floor) × Lowest polygon_count (CornersRight floor) p
+  FloorCase (Err (LinksFault p)) =
       Lists slots vertices polygons × All vertex_count (VertexRight floor) × All polygon_count (CornersRight floor) × Lowest polygon_count (Links floor) p
-  FloorCase Sound = Lists slots vertices polygons × Accepted floor
+  FloorCase (Ok tt) = Lists slots vertices polygons × Accepted floor
   -- 7 to 9 are no answers to a floor alone
-  FloorCase (Faulty Question) = ⊥
-  FloorCase (Faulty StartOutside) = ⊥
-  FloorCase (Faulty GoalOutside) = ⊥
+  FloorCase (Err Question) = ⊥
+  FloorCase (Err StartOutside) = ⊥
+  FloorCase (Err GoalOutside) = ⊥
 
   -- 2 to 9. "The lowest-numbered one counts."
   module _ (question : List ℕ) where
@@ -87,13 +85,14 @@ module _ (slots : ℕ) (vertices polygons : List ℕ) where
     abbrev goal : Point
     goal = (question_of question).goal
 
-    abbrev pub Case : Look → Type 0
-    Case (Refused VertexLength) = FloorCase (Faulty VertexLength)
-    Case (Refused PolygonLength) = FloorCase (Faulty PolygonLength)
-    Case (Refused (Vertex v)) = FloorCase (Faulty (Vertex v))
-    Case (Refused (CornersFault p)) = FloorCase (Faulty (CornersFault p))
-    Case (Refused (LinksFault p)) = FloorCase (Faulty (LinksFault p))
-    Case (Refused Question) = FloorCase Sound × ¬ Asked question
-    Case (Refused StartOutside) = FloorCase Sound × Asked question × ¬ InSome floor start
-    Case (Refused GoalOutside) = FloorCase Sound × Asked question × InSome floor start × ¬ InSome floor goal
-    Case (Inside s g) = FloorCase Sound × Asked question × Least polygon_count (Contains floor start) s × Least polygon_count (Contains floor goal) g
+    abbrev pub Case : Result Inside Refusal → Type 0
+    Case (Err VertexLength) = FloorCase (Err VertexLength)
+    Case (Err PolygonLength) = FloorCase (Err PolygonLength)
+    Case (Err (Vertex v)) = FloorCase (Err (Vertex v))
+    Case (Err (CornersFault p)) = FloorCase (Err (CornersFault p))
+    Case (Err (LinksFault p)) = FloorCase (Err (LinksFault p))
+    Case (Err Question) = FloorCase (Ok tt) × ¬ Asked question
+    Case (Err StartOutside) = FloorCase (Ok tt) × Asked question × ¬ InSome floor start
+    Case (Err GoalOutside) = FloorCase (Ok tt) × Asked question × InSome floor start × ¬ InSome floor goal
+    Case (Ok found) =
+        FloorCase (Ok tt) × Asked question × Least polygon_count (Contains floor start) found.start × Least polygon_count (Contains floor goal) found.goal

@@ -1,14 +1,11 @@
 -- Document 01, "Numbers that come back": 2 to 9, "in table order, each over all records before the next", and what is told of each refusal. Assumes nothing.
-use Rattle.std.specs.Prelude.{ℕ, not, ◌&&◌, cond, List, leb, ltb, length, get_or}
+use Rattle.std.specs.Prelude.{ℕ, not, ◌&&◌, cond, List, Result, Ok, Err, leb, ltb, length, get_or}
 use Rattle.told.specs.declared.Told.{Told}
 use Rattle.told.specs.declared.Told.TheVariants.{Alone, AtRecord}
 use Rattle.counts.specs.Counts.{first}
 use Rattle.floor.specs.declared.Refusal.{Refusal}
 use Rattle.floor.specs.declared.Refusal.TheVariants.{VertexLength, PolygonLength, Vertex, Corners, Links, Question, StartOutside, GoalOutside}
-use Rattle.floor.specs.declared.FloorLook.{FloorLook}
-use Rattle.floor.specs.declared.FloorLook.TheVariants.{Accepted, Faulty}
-use Rattle.floor.specs.declared.Look.{Look}
-use Rattle.floor.specs.declared.Look.TheVariants.{Inside, Refused}
+use Rattle.floor.specs.declared.Inside.{Inside}
 use Rattle.point.specs.declared.Point.{Point}
 use Rattle.plan.specs.Plan.{most_vertices, most_polygons, laid}
 use Rattle.stored.specs.Stored.{Floor, Polygon, vertex_bytes, polygon_bytes, vertex_count, polygon_count, origin}
@@ -30,50 +27,54 @@ bad_links polygons = first (length polygons) (λ p. not (links_right polygons p)
 
 -- ---- the tests in table order
 
+-- what is tested next, where nothing is at fault so far
+abbrev pub and_then : {A : Type 0} → Result Unit Refusal → Result A Refusal → Result A Refusal
+and_then (Ok tt) next = next
+and_then (Err r) next = Err r
+
+-- the record at fault, where it is one of so many
+abbrev pub at_fault : (ℕ → Refusal) → ℕ → ℕ → Result Unit Refusal
+at_fault fault bad count = cond (ltb bad count) (Err (fault bad)) (Ok tt)
+
+-- 4: each vertex
+unfoldable pub vertices_look_of : List Point → Result Unit Refusal
+vertices_look_of vertices = at_fault Vertex (bad_vertex vertices) (length vertices)
+
+-- 5: each polygon by itself, of a floor with so many vertices
+unfoldable pub polygons_look_of : ℕ → List Polygon → Result Unit Refusal
+polygons_look_of count polygons = at_fault Corners (bad_corners count polygons) (length polygons)
+
 -- 4 and 5: each record by itself
-unfoldable pub records_look_of : Floor → FloorLook
-records_look_of f =
-    let corners = bad_corners (length f.vertices) f.polygons in
-    cond (ltb (bad_vertex f.vertices) (length f.vertices)) (Faulty (Vertex (bad_vertex f.vertices)))
-    (cond (ltb corners (length f.polygons)) (Faulty (Corners corners))
-    Accepted)
+unfoldable pub records_look_of : Floor → Result Unit Refusal
+records_look_of f = and_then (vertices_look_of f.vertices) (polygons_look_of (length f.vertices) f.polygons)
 
 -- 2 to 5
-unfoldable pub corners_look_of : ℕ → List ℕ → List ℕ → FloorLook
+unfoldable pub corners_look_of : ℕ → List ℕ → List ℕ → Result Unit Refusal
 corners_look_of slots vertices polygons =
-    cond (not (length_right vertex_bytes most_vertices vertices)) (Faulty VertexLength)
-    (cond (not (length_right (polygon_bytes slots) most_polygons polygons)) (Faulty PolygonLength)
+    cond (not (length_right vertex_bytes most_vertices vertices)) (Err VertexLength)
+    (cond (not (length_right (polygon_bytes slots) most_polygons polygons)) (Err PolygonLength)
     (records_look_of (floor_of slots vertices polygons)))
 
 -- 6
-unfoldable pub links_look_of : List Polygon → FloorLook
-links_look_of polygons = cond (ltb (bad_links polygons) (length polygons)) (Faulty (Links (bad_links polygons))) Accepted
-
--- what is tested next, where nothing is at fault so far
-abbrev pub and_then : FloorLook → FloorLook → FloorLook
-and_then Accepted next = next
-and_then (Faulty r) next = Faulty r
+unfoldable pub links_look_of : List Polygon → Result Unit Refusal
+links_look_of polygons = at_fault Links (bad_links polygons) (length polygons)
 
 -- 2 to 6: the floor
-unfoldable pub floor_look_of : ℕ → List ℕ → List ℕ → FloorLook
+unfoldable pub floor_look_of : ℕ → List ℕ → List ℕ → Result Unit Refusal
 floor_look_of slots vertices polygons = and_then (corners_look_of slots vertices polygons) (links_look_of (polygons_of slots polygons))
 
 -- 7 to 9: the question, of a floor that was accepted
-unfoldable pub ask_of : Floor → List ℕ → Look
+unfoldable pub ask_of : Floor → List ℕ → Result Inside Refusal
 ask_of f question =
     let q = question_of question in
-    cond (not (question_right question)) (Refused Question)
-    (cond (leb (length f.polygons) (polygon_of f q.start)) (Refused StartOutside)
-    (cond (leb (length f.polygons) (polygon_of f q.goal)) (Refused GoalOutside)
-    (Inside (polygon_of f q.start) (polygon_of f q.goal))))
+    cond (not (question_right question)) (Err Question)
+    (cond (leb (length f.polygons) (polygon_of f q.start)) (Err StartOutside)
+    (cond (leb (length f.polygons) (polygon_of f q.goal)) (Err GoalOutside)
+    (Ok (record { start = polygon_of f q.start; goal = polygon_of f q.goal }))))
 
 -- the floor, then the question
-abbrev pub ask_if : FloorLook → Look → Look
-ask_if Accepted ask = ask
-ask_if (Faulty r) ask = Refused r
-
-unfoldable pub look_of : ℕ → List ℕ → List ℕ → List ℕ → Look
-look_of slots vertices polygons question = ask_if (floor_look_of slots vertices polygons) (ask_of (floor_of slots vertices polygons) question)
+unfoldable pub look_of : ℕ → List ℕ → List ℕ → List ℕ → Result Inside Refusal
+look_of slots vertices polygons question = and_then (floor_look_of slots vertices polygons) (ask_of (floor_of slots vertices polygons) question)
 
 -- ---- the plan
 
@@ -84,9 +85,9 @@ laid_after slots vertices polygons before =
     (laid slots (vertex_count vertices) (polygon_count slots polygons)) before
 
 -- one plan of an accepted floor, another of one at fault
-abbrev pub plan_if : FloorLook → List ℕ → List ℕ → List ℕ
-plan_if Accepted accepted faulty = accepted
-plan_if (Faulty r) accepted faulty = faulty
+abbrev pub plan_if : Result Unit Refusal → List ℕ → List ℕ → List ℕ
+plan_if (Ok tt) accepted faulty = accepted
+plan_if (Err r) accepted faulty = faulty
 
 -- an accepted floor's has its turn vertices
 unfoldable pub plan_after : ℕ → List ℕ → List ℕ → List ℕ → List ℕ

@@ -8,11 +8,13 @@ ghost use Rattle.stored.specs.Stored.{vertex_count, origin, vertices_of, record_
 ghost use Rattle.faults.specs.Tests.{point_right, question_right};
 ghost use Rattle.faults.specs.Accepted.{Corners};
 ghost use Rattle.edges.specs.Where.{turns_marked};
-ghost use Rattle.edges.specs.Ground.{Ground};
-ghost use Rattle.floor.specs.Look.{bad_vertex, bad_corners, bad_links, records_look_of, corners_look_of, links_look_of, floor_look_of};
+ghost use Rattle.edges.specs.AcceptedFloor.{the_floor};
+ghost use Rattle.floor.specs.Look.{vertices_look_of, polygons_look_of, records_look_of, corners_look_of, links_look_of, floor_look_of};
 ghost use Rattle.floor.specs.Look.{laid_after, plan_if, plan_after, ask_of, look_of, refusal_told};
 
-use plan::PLAN;
+use edges::AcceptedFloor;
+use plan::Plan;
+use stored::{Question, StoredPolygon};
 use told::Told;
 
 // How many corners a polygon's record has room for.
@@ -44,21 +46,15 @@ pub enum Refusal {
     GoalOutside,
 }
 
-// What a look at a floor finds.
+// The polygons in which the start and the goal of a question are.
 #[derive(Clone, Copy)]
-pub enum FloorLook {
-    Accepted,
-    Faulty(Refusal),
-}
-
-// What a look at a floor and a question finds: the polygons in which the start and the goal are, or why not.
-#[derive(Clone, Copy)]
-pub enum Look {
-    Inside(usize, usize),
-    Refused(Refusal),
+pub struct Inside {
+    pub start: usize,
+    pub goal: usize,
 }
 
 // 4: vertex v.
+#[tactic(auto, using(crate::proofs::Ways::vertex_told))]
 fn vertex_right(vertices: &[u8], v: usize) -> bool
     requires { v < vertex_count vertices.now }
     ensures { result ≡ point_right (get_or (vertices_of vertices.now) v origin) }
@@ -66,92 +62,78 @@ fn vertex_right(vertices: &[u8], v: usize) -> bool
     faults::point_right(stored::stored_vertex(vertices, v))
 }
 
-// 4: the lowest vertex at fault, or the number of vertices.
-fn bad_vertex(vertices: &[u8], plan: &[u32; PLAN]) -> usize
+// 4: each vertex, and the lowest at fault is told.
+#[tactic(auto, using(crate::proofs::Ways::vertex_wrong_told))]
+fn look_at_vertices(vertices: &[u8], plan: &Plan) -> Result<(), Refusal>
     requires { vertex_count_in plan.now ≡ vertex_count vertices.now }
-    ensures { result ≡ bad_vertex (vertices_of vertices.now) }
+    ensures { result ≡ vertices_look_of (vertices_of vertices.now) }
 {
-    let n = plan::vertex_count(plan);
-    let mut v = 0;
-    while v < n {
+    for v in 0..plan.vertex_count() {
         if !vertex_right(vertices, v) {
-            return v;
+            return Err(Refusal::Vertex(v));
         }
-        v += 1;
     }
-    v
+    Ok(())
 }
 
-// 5: the lowest polygon at fault, or the number of polygons.
-fn bad_corners(polygons: &[u8], plan: &[u32; PLAN]) -> usize
+// 5: each polygon by itself, and the lowest at fault is told.
+#[tactic(auto, using(crate::proofs::Ways::asked_not, crate::proofs::Ways::right_more, crate::proofs::Ways::polygon_told))]
+fn look_at_polygons(polygons: &[u8], plan: &Plan) -> Result<(), Refusal>
     requires { PolygonsPlanned plan.now polygons.now }
-    ensures { result ≡ bad_corners (vertex_count_in plan.now) (polygons_in plan.now polygons.now) }
+    ensures { result ≡ polygons_look_of (vertex_count_in plan.now) (polygons_in plan.now polygons.now) }
 {
-    let n = plan::polygon_count(plan);
-    let mut p = 0;
-    while p < n {
-        if !faults::corners_right(polygons, plan, p) {
-            return p;
+    let vertices = plan.vertex_count();
+    for p in 0..plan.polygon_count() {
+        if !faults::corners_right(&StoredPolygon::at(polygons, plan, p), vertices) {
+            return Err(Refusal::Corners(p));
         }
-        p += 1;
     }
-    p
+    Ok(())
 }
 
-// 6: the lowest polygon at fault, or the number of polygons.
-fn bad_links(polygons: &[u8], plan: &[u32; PLAN]) -> usize
+// 6: the links of each polygon, and the lowest at fault is told.
+#[tactic(auto, using(crate::proofs::Ways::link_wrong_told))]
+fn look_at_neighbours(polygons: &[u8], plan: &Plan) -> Result<(), Refusal>
     requires { PolygonsPlanned plan.now polygons.now }
-    ensures { result ≡ bad_links (polygons_in plan.now polygons.now) }
+    ensures { result ≡ links_look_of (polygons_in plan.now polygons.now) }
 {
-    let n = plan::polygon_count(plan);
-    let mut p = 0;
-    while p < n {
+    for p in 0..plan.polygon_count() {
         if !faults::links_right(polygons, plan, p) {
-            return p;
+            return Err(Refusal::Links(p));
         }
-        p += 1;
     }
-    p
+    Ok(())
 }
 
 // 4 and 5, each over all records before the next.
-fn look_at_records(vertices: &[u8], polygons: &[u8], plan: &[u32; PLAN]) -> FloorLook
+#[tactic(auto, using(crate::proofs::Ways::records_fault, crate::proofs::Ways::records_rest))]
+fn look_at_records(vertices: &[u8], polygons: &[u8], plan: &Plan) -> Result<(), Refusal>
     requires { VerticesPlanned plan.now vertices.now × PolygonsPlanned plan.now polygons.now }
     ensures { result ≡ records_look_of (floor_in plan.now vertices.now polygons.now) }
 {
-    let v = bad_vertex(vertices, plan);
-    if v < plan::vertex_count(plan) {
-        return FloorLook::Faulty(Refusal::Vertex(v));
-    }
-    let p = bad_corners(polygons, plan);
-    if p < plan::polygon_count(plan) {
-        return FloorLook::Faulty(Refusal::Corners(p));
-    }
-    FloorLook::Accepted
+    look_at_vertices(vertices, plan)?;
+    look_at_polygons(polygons, plan)
 }
 
 // 2 to 5, and the plan is laid: what comes after may lean on the corners.
-pub fn look_at_corners(vertices: &[u8], polygons: &[u8], plan: &mut [u32; PLAN]) -> FloorLook
+#[tactic(auto, using(crate::proofs::Ways::few_of, crate::proofs::Ways::vertices_short, crate::proofs::Ways::vertices_unlaid, crate::proofs::Ways::polygons_short, crate::proofs::Ways::polygons_unlaid))]
+pub fn look_at_corners(vertices: &[u8], polygons: &[u8], plan: &mut Plan) -> Result<(), Refusal>
     ensures value { result ≡ corners_look_of 8 vertices.now polygons.now }
     ensures plan_after { plan.new ≡ laid_after 8 vertices.now polygons.now plan.old }
 {
     if !faults::length_right(vertices, 8, MOST_VERTICES) {
-        return FloorLook::Faulty(Refusal::VertexLength);
+        return Err(Refusal::VertexLength);
     }
     if !faults::length_right(polygons, SLOTS * 8, MOST_POLYGONS) {
-        return FloorLook::Faulty(Refusal::PolygonLength);
+        return Err(Refusal::PolygonLength);
     }
-    plan::lay(
-        plan,
-        SLOTS,
-        vertices.len() / 8,
-        polygons.len() / (SLOTS * 8),
-    );
+    plan.lay(SLOTS, vertices.len() / 8, polygons.len() / (SLOTS * 8));
     look_at_records(vertices, polygons, plan)
 }
 
 // 6, of a floor whose corners are right, and the turn vertices of one that is accepted.
-fn look_at_links(polygons: &[u8], plan: &mut [u32; PLAN]) -> FloorLook
+#[tactic(auto, using(crate::proofs::Ways::links_plan, crate::proofs::Ways::turns_plan))]
+fn look_at_links(polygons: &[u8], plan: &mut Plan) -> Result<(), Refusal>
     requires polygons_planned { PolygonsPlanned plan.old polygons.now × (vertex_count_in plan.old ≤ most_vertices) }
     requires by_index { (p : ℕ) → p < polygon_count_in plan.old → Corners (vertex_count_in plan.old) (record_in plan.old polygons.now p) }
     ensures value { result ≡ links_look_of (polygons_in plan.old polygons.now) }
@@ -159,83 +141,82 @@ fn look_at_links(polygons: &[u8], plan: &mut [u32; PLAN]) -> FloorLook
         let listed = polygons_in before polygons.now in
         plan.new ≡ plan_if (links_look_of listed) (turns_marked listed before) before }
 {
-    let p = bad_links(polygons, plan);
-    if p < plan::polygon_count(plan) {
-        return FloorLook::Faulty(Refusal::Links(p));
-    }
+    look_at_neighbours(polygons, plan)?;
     edges::turns::mark_turns(polygons, plan);
-    FloorLook::Accepted
+    Ok(())
 }
 
 // 2 to 6, in table order, each over all records before the next. Of a floor that is accepted the plan is filled.
-pub fn look_at_floor(vertices: &[u8], polygons: &[u8], plan: &mut [u32; PLAN]) -> FloorLook
+#[tactic(auto, using(crate::proofs::Planned::vertices_few_now, crate::proofs::Planned::polygons_now, crate::proofs::Planned::corners_now, crate::proofs::Planned::links_told, crate::proofs::Planned::plan_told, crate::proofs::Planned::fault_told, crate::proofs::Planned::fault_plan))]
+pub fn look_at_floor(vertices: &[u8], polygons: &[u8], plan: &mut Plan) -> Result<(), Refusal>
     ensures value { result ≡ floor_look_of 8 vertices.now polygons.now }
     ensures plan_after { plan.new ≡ plan_after 8 vertices.now polygons.now plan.old }
 {
-    let look = look_at_corners(vertices, polygons, plan);
-    match look {
-        FloorLook::Accepted => look_at_links(polygons, plan),
-        FloorLook::Faulty(refusal) => FloorLook::Faulty(refusal),
-    }
+    look_at_corners(vertices, polygons, plan)?;
+    look_at_links(polygons, plan)
 }
 
 // 7: the question's bytes and coordinates.
+#[tactic(auto, using(crate::proofs::Ways::question_short, crate::proofs::Ways::start_wrong, crate::proofs::Ways::goal_told))]
 fn question_right(question: &[u8]) -> bool
     ensures { result ≡ question_right question.now }
 {
     if question.len() == 16 {
-        return faults::point_right(stored::question_start(question))
-            && faults::point_right(stored::question_goal(question));
+        let asked = Question::read(question);
+        return faults::point_right(asked.start) && faults::point_right(asked.goal);
     }
     false
 }
 
 // 7 to 9, of a floor that was accepted.
-pub fn ask(vertices: &[u8], polygons: &[u8], plan: &[u32; PLAN], question: &[u8]) -> Look
-    requires { Ground plan.now vertices.now polygons.now }
-    ensures { result ≡ ask_of (floor_in plan.now vertices.now polygons.now) question.now }
+#[tactic(auto, using(crate::proofs::Ways::question_long, crate::proofs::Ways::question_wrong, crate::proofs::Ways::start_outside, crate::proofs::Ways::goal_outside, crate::proofs::Ways::both_inside))]
+pub fn ask(floor: &AcceptedFloor, question: &[u8]) -> Result<Inside, Refusal>
+    ensures { result ≡ ask_of (the_floor floor.now) question.now }
 {
     if !question_right(question) {
-        return Look::Refused(Refusal::Question);
+        return Err(Refusal::Question);
     }
-    let n = plan::polygon_count(plan);
-    let start = edges::polygon_of(vertices, polygons, plan, stored::question_start(question));
-    if n <= start {
-        return Look::Refused(Refusal::StartOutside);
-    }
-    let goal = edges::polygon_of(vertices, polygons, plan, stored::question_goal(question));
-    if n <= goal {
-        return Look::Refused(Refusal::GoalOutside);
-    }
-    Look::Inside(start, goal)
+    let asked = Question::read(question);
+    let start = edges::polygon_of(floor, asked.start).ok_or(Refusal::StartOutside)?;
+    let goal = edges::polygon_of(floor, asked.goal).ok_or(Refusal::GoalOutside)?;
+    Ok(Inside { start, goal })
 }
 
 // 2 to 9: the floor, then the question. Of a floor that is accepted the plan is filled.
-pub fn look_with(vertices: &[u8], polygons: &[u8], question: &[u8], plan: &mut [u32; PLAN]) -> Look
+#[tactic(auto, using(crate::proofs::Asking::looked_held, crate::proofs::Ways::fault_looked, crate::proofs::Ways::asked_looked))]
+pub fn look_with(
+    vertices: &[u8],
+    polygons: &[u8],
+    question: &[u8],
+    plan: &mut Plan,
+) -> Result<Inside, Refusal>
     ensures value { result ≡ look_of 8 vertices.now polygons.now question.now }
     ensures plan_after { plan.new ≡ plan_after 8 vertices.now polygons.now plan.old }
 {
-    match look_at_floor(vertices, polygons, plan) {
-        FloorLook::Accepted => ask(vertices, polygons, plan, question),
-        FloorLook::Faulty(refusal) => Look::Refused(refusal),
-    }
+    look_at_floor(vertices, polygons, plan)?;
+    let floor = AcceptedFloor {
+        vertices,
+        polygons,
+        plan,
+    };
+    ask(&floor, question)
 }
 
 // The same for who wants no plan. Nothing is asked of the caller, and nothing that is lent is changed.
-pub fn look_at(vertices: &[u8], polygons: &[u8], question: &[u8]) -> Look
+pub fn look_at(vertices: &[u8], polygons: &[u8], question: &[u8]) -> Result<Inside, Refusal>
     ensures { result ≡ look_of 8 vertices.now polygons.now question.now }
 {
-    let mut plan = [0u32; PLAN];
+    let mut plan = Plan::new();
     look_with(vertices, polygons, question, &mut plan)
 }
 
-impl Refusal {
-    // The number in document 01's table, and the record at fault where there is one.
+// The number in document 01's table, and the record at fault where there is one.
+impl From<Refusal> for Told {
+    ghost from_gives = { λ refusal told. told ≡ refusal_told refusal };
+
     #[tactic(auto, unfolding(crate::specs::Look::refusal_told))]
-    pub fn told(self) -> Told
-        ensures { result ≡ refusal_told self }
-    {
-        match self {
+    fn from(refusal: Refusal) -> Told {
+        match refusal {
             Refusal::VertexLength => Told::Alone(2),
             Refusal::PolygonLength => Told::Alone(3),
             Refusal::Vertex(v) => Told::AtRecord(4, v),

@@ -1,14 +1,10 @@
 -- The numbers of each answer, and what is written for it, where C calls the geometry. Rests on the definitions of `point` and `helpers`. Assumes nothing.
-use Rattle.std.specs.Prelude.{ℕ, List, [], ◌∷◌}
+use Rattle.std.specs.Prelude.{ℕ, Option, Some, None, List, [], ◌∷◌}
 use Rattle.std.specs.Float.{binary32}
 use Rattle.std.specs.Float.Ieee.{to_bits}
 use Rattle.point.specs.declared.Point.{Point}
 use Rattle.point.specs.declared.EdgeSide.{EdgeSide}
 use Rattle.point.specs.declared.EdgeSide.TheVariants.{Left, Right, Edge}
-use Rattle.helpers.specs.declared.Crossing.{Crossing}
-use Rattle.helpers.specs.declared.Crossing.TheVariants.{At, Nowhere}
-use Rattle.helpers.specs.declared.Turn.{Turn}
-use Rattle.helpers.specs.declared.Turn.TheVariants.{Around, Straight}
 
 -- ---- numbers
 
@@ -17,13 +13,16 @@ side_number Left = 0
 side_number Right = 1
 side_number Edge = 2
 
-unfoldable pub turn_number : Turn → ℕ
-turn_number (Around p) = 1
-turn_number Straight = 0
+-- 1 for a point, 0 for none
+unfoldable pub point_number : Option Point → ℕ
+point_number (Some p) = 1
+point_number None = 0
 
-unfoldable pub crossing_number : Crossing → ℕ
-crossing_number (At p) = 1
-crossing_number Nowhere = 0
+abbrev pub turn_number : Option Point → ℕ
+turn_number turn = point_number turn
+
+abbrev pub crossing_number : Option Point → ℕ
+crossing_number crossing = point_number crossing
 
 -- ---- what is written
 
@@ -32,10 +31,12 @@ unfoldable pub point_bits : Point → List ℕ
 point_bits p = to_bits binary32 p.x ∷ to_bits binary32 p.y ∷ []
 
 -- the point, or what stood there
-unfoldable pub turn_written : Turn → List ℕ → List ℕ
-turn_written (Around p) before = point_bits p
-turn_written Straight before = before
+unfoldable pub point_written : Option Point → List ℕ → List ℕ
+point_written (Some p) before = point_bits p
+point_written None before = before
 
-unfoldable pub crossing_written : Crossing → List ℕ → List ℕ
-crossing_written (At p) before = point_bits p
-crossing_written Nowhere before = before
+abbrev pub turn_written : Option Point → List ℕ → List ℕ
+turn_written turn before = point_written turn before
+
+abbrev pub crossing_written : Option Point → List ℕ → List ℕ
+crossing_written crossing before = point_written crossing before

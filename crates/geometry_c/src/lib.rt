@@ -10,9 +10,8 @@ ghost use Rattle.point.specs.Point.{from_bits_of, dot_of, perp_dot_of, length_of
 ghost use Rattle.point.specs.Sides.{side_of, mirror_of, on_segment_of, in_bounding_box_of, min_of, max_of};
 ghost use Rattle.helpers.specs.Helpers.{heuristic_of, turning_point_of, intersection_time_of, line_intersect_segment_of};
 ghost use Rattle.patterns.specs.Patterns.{segment_of, truth_number};
-ghost use Rattle.geometry_c.specs.Export.{side_number, turn_number, crossing_number, point_bits, turn_written, crossing_written};
+ghost use Rattle.geometry_c.specs.Export.{side_number, turn_number, crossing_number, point_bits, turn_written, crossing_written, point_number, point_written};
 
-use helpers::{Crossing, Turn};
 use patterns::{segment, truth_number};
 use point::{EdgeSide, Point};
 
@@ -33,6 +32,21 @@ fn put(out: &mut [u32; 2], point: Point)
     ensures { out.new ≡ point_bits point }
 {
     *out = [float::to_bits(point.x), float::to_bits(point.y)];
+}
+
+// 1 and the point, or 0 and out is unchanged.
+#[tactic(auto, unfolding(crate::specs::Export::point_number, crate::specs::Export::point_written))]
+fn put_if(out: &mut [u32; 2], found: Option<Point>) -> u32
+    ensures value { result ≡ point_number found }
+    ensures out_after { out.new ≡ point_written found out.old }
+{
+    match found {
+        Some(point) => {
+            put(out, point);
+            1
+        }
+        None => 0,
+    }
 }
 
 pub fn geometry_root(x: u32) -> u32
@@ -97,7 +111,6 @@ pub fn geometry_heuristic(
 }
 
 // 1 and the point, or 0 and out is unchanged.
-#[tactic(auto, unfolding(crate::specs::Export::turn_number, crate::specs::Export::turn_written))]
 pub fn geometry_turning_point(
     rx: u32,
     ry: u32,
@@ -116,13 +129,7 @@ pub fn geometry_turning_point(
     let root = Point::from_bits(rx, ry);
     let goal = Point::from_bits(gx, gy);
     let turn = helpers::turning_point(root, goal, segment(i0x, i0y, i1x, i1y));
-    match turn {
-        Turn::Around(point) => {
-            put(out, point);
-            1
-        }
-        Turn::Straight => 0,
-    }
+    put_if(out, turn)
 }
 
 pub fn geometry_intersection_time(
@@ -144,7 +151,6 @@ pub fn geometry_intersection_time(
 }
 
 // 1 and the point, or 0 and out is unchanged.
-#[tactic(auto, unfolding(crate::specs::Export::crossing_number, crate::specs::Export::crossing_written))]
 pub fn geometry_line_intersect_segment(
     l0x: u32,
     l0y: u32,
@@ -164,13 +170,7 @@ pub fn geometry_line_intersect_segment(
         segment(l0x, l0y, l1x, l1y),
         segment(s0x, s0y, s1x, s1y),
     );
-    match crossing {
-        Crossing::At(point) => {
-            put(out, point);
-            1
-        }
-        Crossing::Nowhere => 0,
-    }
+    put_if(out, crossing)
 }
 
 pub fn geometry_distance(ax: u32, ay: u32, bx: u32, by: u32) -> u32

@@ -1,5 +1,5 @@
 -- The corners of a polygon as the walk has them: a list of points whose edges are the polygon's. Assumes nothing.
-use Prim.Native.Nat.{ℕ, zero, suc, ◌+◌, ◌-◌, ◌≤◌, ◌<◌}
+use Prim.Native.Nat.{ℕ, zero, suc, ◌+◌, ◌-◌, ◌<◌}
 use native.Mathlib.Decide.{dec_lt}
 use native.Mathlib.Omega.{arith}
 use mathlib.Core.Path.{◌≡◌, sym, ap, ◌∙◌}
@@ -7,21 +7,18 @@ use mathlib.Core.Bool.{true, false}
 use mathlib.Core.List.{List, [], ◌∷◌, ◌++◌, append_assoc, append-nil}
 use borrow.Author.Tests.{eq-eqb}
 use lib.Dec.{eqb}
-use lib.ListN.{length, get_or-eq_default}
+use lib.ListN.{length}
 use Rattle.counts.specs.Counts.{first, table}
 use Rattle.counts.proofs.Laws.{first_at, first_before, get_or_table, length_table}
 use Rattle.point.specs.declared.Point.{Point}
 use Rattle.walk.specs.Round.{wrapped, corner_of, edge_of}
 use Rattle.walk.proofs.Wrap.{wrapped_below, wrapped_past}
 use Rattle.stored.specs.Stored.{Floor, Polygon, unused, corner, corner_count, corner_after, polygon, vertex, edge}
+use Rattle.stored.proofs.Records.{corner_beyond}
 
 -- ---- behind the last corner
 
 module _ (q : Polygon) where
-  slot_past : (i : ℕ) → length q.corners ≤ i → corner q i ≡ unused
-  unfolding corner
-  slot_past i l = get_or-eq_default q.corners unused l
-
   pub behind_is_unused : eqb (corner q (corner_count q)) unused ≡ true
   unfolding corner_count
   behind_is_unused = go (dec_lt (first (length q.corners) (λ i. eqb (corner q i) unused)) (length q.corners))
@@ -29,7 +26,7 @@ module _ (q : Polygon) where
       go : Dec (first (length q.corners) (λ i. eqb (corner q i) unused) < length q.corners)
           → eqb (corner q (first (length q.corners) (λ i. eqb (corner q i) unused))) unused ≡ true
       go (yes l) = first_at (length q.corners) (λ i. eqb (corner q i) unused) l
-      go (no l) = eq-eqb _ _ (slot_past _ (omega arith))
+      go (no l) = eq-eqb _ _ (corner_beyond q _ (omega arith))
 
   pub corner_is_used : (i : ℕ) → i < corner_count q → eqb (corner q i) unused ≡ false
   unfolding corner_count

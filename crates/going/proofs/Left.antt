@@ -9,6 +9,7 @@ use mathlib.Core.List.{List, [], ◌∷◌, ◌++◌}
 use borrow.Author.Tests.{leb-true}
 use lib.ListN.{length, drop, drop_of_length-le}
 use lib.Seq.{drop-cons, get_or-take, length-take-le}
+use Rattle.std.specs.Prelude.{Option, Some, None}
 use Rattle.counts.specs.Counts.{table}
 use Rattle.point.specs.declared.Point.{Point}
 use Rattle.cut.specs.declared.SuccessorType.{SuccessorType}
@@ -24,8 +25,6 @@ use Rattle.walk.proofs.Wrap.{wrapped_past}
 use Rattle.walk.proofs.Laws.{array_holds_the_parts, kind_is_the_walk's, another}
 use Rattle.stored.specs.Stored.{Floor, Polygon, floor_in, record_in, corner, corner_count, polygon, vertex, edge}
 use Rattle.steps.specs.declared.Node.{Node}
-use Rattle.steps.specs.declared.Permitted.{Permitted}
-use Rattle.steps.specs.declared.Permitted.TheVariants.{Yes, No}
 use Rattle.route.specs.declared.Step.{Step}
 use Rattle.steps.specs.Steps.{whole_edge, whole_edges, entry_of, successors_in, candidates, step_of, and_then, steps_over}
 use Rattle.going.specs.Going.{whole_of, entry_for, count_for, begin_round, walked_at, walked_on, parts_over, left_in, Yielded, Stands, Goes}
@@ -56,9 +55,9 @@ unfolding steps_over
 steps_over_both f node [] ys = refl
 steps_over_both f node (x ∷ xs) ys = go (step_of f node x) (steps_over f node xs) (steps_over f node ys) (steps_over_both f node xs ys)
   where
-    go : (p : Permitted) (some rest : List Step) {all : List Step} → all ≡ some ++ rest → and_then p all ≡ and_then p some ++ rest
-    go (Yes step) some rest e = ap (λ (l : List Step). step ∷ l) e
-    go No some rest e = e
+    go : (p : Option Step) (some rest : List Step) {all : List Step} → all ≡ some ++ rest → and_then p all ≡ and_then p some ++ rest
+    go (Some step) some rest e = ap (λ (l : List Step). step ∷ l) e
+    go None some rest e = e
 
 -- ---- the walk
 

@@ -4,10 +4,12 @@ use native.Mathlib.Omega.{arith}
 use mathlib.Core.Path.{◌≡◌, refl, sym, ◌∙◌}
 use mathlib.Core.Bool.{Bool, true, false}
 use mathlib.Core.List.{List}
-use borrow.Author.Tests.{leb-false}
+use borrow.Author.Tests.{leb-false, lt-ltb}
 use lib.Dec.{eqb}
 use lib.ListN.{length}
-use Rattle.counts.specs.Counts.{first}
+use Rattle.std.specs.Prelude.{Option, Some, IsSome}
+use Rattle.std.proofs.lemmas.Option.{same_Some}
+use Rattle.counts.specs.Counts.{first, below}
 use Rattle.counts.proofs.Laws.{first_is, first_before, first_at}
 use Rattle.point.specs.declared.Segment.{Segment}
 use Rattle.cut.specs.declared.SuccessorType.{SuccessorType}
@@ -16,8 +18,7 @@ use Rattle.walk.specs.declared.Walked.{Walked}
 use Rattle.walk.specs.Walk.{walk_edge_of, walked_of, one_of}
 use Rattle.walk.specs.Turns.{begin_of, is_over_of, edge_number_of, next_of}
 use Rattle.walk.proofs.Laws.{count_is_one_to_three, array_is_of_three, another}
-use Rattle.plan.specs.Plan.{slots_in}
-use Rattle.stored.specs.Stored.{Floor, Polygon, record_in, floor_in, corner, corner_count, polygon, edge}
+use Rattle.stored.specs.Stored.{Floor, Polygon, record_in, floor_in, corner, corner_count, polygon, edge, edge_of}
 use Rattle.stored.proofs.Records.{polygon_read, count_slots}
 use Rattle.steps.specs.declared.Node.{Node}
 use Rattle.steps.specs.Steps.{place_of, entry_of}
@@ -75,10 +76,10 @@ unfolding walked_on
 on_yields f node round = at_yields f node (edge_number_of round) round.kind
 
 -- what the code walks, by the number of the round's edge
-pub walked_as_on : (f : Floor) (node : Node) (round : Round) {i : ℕ} {w : Walked} → i ≡ edge_number_of round
-    → w ≡ walked_at f node i round.kind → w ≡ walked_on f node round
-unfolding walked_on
-walked_as_on f node round e d = rw (← e) d
+pub walked_as_on : (f : Floor) (node : Node) (round : Round) {q : Polygon} {i : ℕ} {w : Walked} → q ≡ polygon f node.polygon
+    → i ≡ edge_number_of round → w ≡ walk_by node (edge_of f.vertices q i) round.kind → w ≡ walked_on f node round
+unfolding walked_on walked_at edge
+walked_as_on f node round s e d = rw (← e, ← s) d
 
 -- ---- round the polygon
 
@@ -128,18 +129,27 @@ module _ (q : Polygon) (node : Node) where
     unfolding begin_round
     node_begins e at r = rw (count_of_node e, ← found, ← at) r
 
--- by the slots that were read off the plan
-module _ (plan ps : List ℕ) (node : Node) where
-  abbrev its : Polygon
-  its = record_in plan ps node.polygon
+-- sought among all slots
+module _ (q : Polygon) (node : Node) (other : node.seed ≡ false) (low : entry_for q node < count_for q node) (s : ℕ) (read : s ≡ length q.corners)
+    (found : Option ℕ) (at : found ≡ below s (place_of q s node.second)) where
+  among : place_of q s node.second ≡ entry_for q node
+  among = found_among q node other low s (rw read (count_slots q))
 
-  module _ (other : node.seed ≡ false) (low : entry_for its node < count_for its node) (s : ℕ) (read : s ≡ slots_in plan)
-      (entry : ℕ) (at : entry ≡ place_of its s node.second) where
-    pub entry_among : entry ≡ entry_for its node
-    entry_among = at ∙ found_among its node other low s (rw read (count_slots (slots_in plan) ps node.polygon))
+  inside : entry_for q node < s
+  inside = omega (arith, low, count_of_node q node other, read, count_slots q)
 
-    pub entry_counted : entry ≤ corner_count its
-    entry_counted = omega (arith, entry_among, low, count_of_node its node other)
+  is_found : found ≡ Some (entry_for q node)
+  is_found = at ∙ rw (among, lt-ltb _ _ inside) refl
+
+  pub some_found : IsSome found
+  some_found = rw is_found
+
+  module _ (entry : ℕ) (its : found ≡ Some entry) where
+    pub entry_among : entry ≡ entry_for q node
+    entry_among = same_Some entry (entry_for q node) (sym its ∙ is_found)
+
+    pub entry_counted : entry ≤ corner_count q
+    entry_counted = omega (arith, entry_among, low, count_of_node q node other)
 
 module _ (plan vs ps : List ℕ) (node : Node) (h : Stands plan vs ps node) where
   abbrev f : Floor

@@ -79,10 +79,10 @@ module _ (plan vs ps : List ℕ) (g : Ground plan vs ps) where
     polygon_in_lem = rw (over.its_polygon, ← polygons_counted g.polygons_planned) back.listed
 
     first_in : t.first < vertex_count_in plan
-    first_in = rw (over.its_first, same_polygon) (corner_below _ _ _ _ h.listed.corners c.edge edge_in)
+    first_in = rw (over.its_first, same_polygon) (corner_below h.listed.corners c.edge edge_in)
 
     second_in : t.second < vertex_count_in plan
-    second_in = rw (over.its_second, same_polygon) (after_below _ _ _ _ h.listed.corners c.edge edge_in)
+    second_in = rw (over.its_second, same_polygon) (after_below h.listed.corners c.edge edge_in)
 
     entry_in : place_of (polygon f t.polygon) (corner_count (polygon f t.polygon)) t.second < corner_count (polygon f t.polygon)
     unfolding place_of

@@ -1,16 +1,12 @@
 -- The functions of polyanya's src/helpers.rs as document 01 has them under "Geometry", each name before its use. Rests on the definitions of `point`.
 -- Assumes nothing. Each definition is what the contract of the function of that name says, with `Of` behind it. A comment in quotes is 01's sentence,
 -- any other the Rust's own line or words.
-use Rattle.std.specs.Prelude.{Bool, cond, ◌&&◌, Float}
+use Rattle.std.specs.Prelude.{Bool, cond, ◌&&◌, Option, Some, None, Float}
 use Rattle.std.specs.Float.{binary32}
 use Rattle.std.specs.Float.Ieee.{add, div, neg, lt, le}
 use Rattle.point.specs.declared.Point.{Point}
 use Rattle.point.specs.declared.Segment.{Segment}
 use Rattle.point.specs.declared.EdgeSide.TheVariants.{Left, Right}
-use Rattle.helpers.specs.declared.Crossing.{Crossing}
-use Rattle.helpers.specs.declared.Crossing.TheVariants.{At, Nowhere}
-use Rattle.helpers.specs.declared.Turn.{Turn}
-use Rattle.helpers.specs.declared.Turn.TheVariants.{Around, Straight}
 use Rattle.point.specs.Point.{zero, one, epsilon, minus_of, plus_of, times_of, same_of, ends_at_of, perp_dot_of, distance_of}
 use Rattle.point.specs.Sides.{side_of, same_side_of, mirror_of}
 
@@ -31,10 +27,10 @@ unfoldable pub clamp_of : Float → Float
 clamp_of x = cond (lt x zero) zero (cond (lt one x) one x)
 
 -- "and segment.0 + time × (segment.1 − segment.0)."
-unfoldable pub line_intersect_segment_of : Segment → Segment → Crossing
+unfoldable pub line_intersect_segment_of : Segment → Segment → Option Point
 line_intersect_segment_of line segment =
     let time = intersection_time_of line segment in
-    cond (crosses_of time) (At (plus_of segment.0 (times_of (minus_of segment.1 segment.0) (clamp_of time)))) Nowhere
+    cond (crosses_of time) (Some (plus_of segment.0 (times_of (minus_of segment.1 segment.0) (clamp_of time)))) None
 
 -- ---- heuristic and turning point
 
@@ -54,10 +50,10 @@ heuristic_of root goal interval =
     (distance_of root seen)))
 
 -- The point at which the path between the given root and goal should turn, if any
-unfoldable pub turning_point_of : Point → Point → Segment → Turn
+unfoldable pub turning_point_of : Point → Point → Segment → Option Point
 turning_point_of root goal interval =
     let seen = goal_beyond_of root goal interval in
-    cond (same_of root interval.0) Straight
-    (cond (same_side_of (side_of seen (root, interval.0)) Right) (Around interval.0)
-    (cond (same_side_of (side_of seen (root, interval.1)) Left) (Around interval.1)
-    Straight))
+    cond (same_of root interval.0) None
+    (cond (same_side_of (side_of seen (root, interval.0)) Right) (Some interval.0)
+    (cond (same_side_of (side_of seen (root, interval.1)) Left) (Some interval.1)
+    None))

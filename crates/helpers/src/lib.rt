@@ -7,26 +7,12 @@ ghost use Rattle.helpers.specs.Helpers.{goal_beyond_of, heuristic_of, turning_po
 
 use point::{EdgeSide, Point, Segment};
 
-// Where a line meets a segment.
-#[derive(Clone, Copy)]
-pub enum Crossing {
-    At(Point),
-    Nowhere,
-}
-
-// Where a path turns on its way to the goal.
-#[derive(Clone, Copy)]
-pub enum Turn {
-    Around(Point),
-    Straight,
-}
-
 // If the goal is on the same side of the interval with the root, then we mirror it.
-#[tactic(auto, unfolding(crate::specs::Helpers::goal_beyond_of))]
+#[tactic(auto, unfolding(crate::specs::Helpers::goal_beyond_of, point::specs::Sides::same_side_of))]
 fn goal_beyond(root: Point, goal: Point, interval: Segment) -> Point
     ensures { result ≡ goal_beyond_of root goal interval }
 {
-    if point::same_side(root.side(interval), goal.side(interval)) {
+    if root.side(interval) == goal.side(interval) {
         return goal.mirror(interval);
     }
     goal
@@ -55,24 +41,24 @@ pub fn heuristic(root: Point, goal: Point, interval: Segment) -> f32
     root.distance(goal)
 }
 
-// Returns the point at which the path between the given root and goal should turn, if any.
-#[tactic(auto, unfolding(crate::specs::Helpers::turning_point_of))]
-pub fn turning_point(root: Point, goal: Point, interval: Segment) -> Turn
+// Returns the point at which the path between the given root and goal should turn, if any: none where it goes straight on.
+#[tactic(auto, unfolding(crate::specs::Helpers::turning_point_of, point::specs::Point::same_of, point::specs::Sides::same_side_of))]
+pub fn turning_point(root: Point, goal: Point, interval: Segment) -> Option<Point>
     ensures { result ≡ turning_point_of root goal interval }
 {
     let goal = goal_beyond(root, goal, interval);
     let right = interval.0;
     let left = interval.1;
-    if root.same(right) {
-        return Turn::Straight;
+    if root == right {
+        return None;
     }
-    if point::same_side(goal.side(Segment(root, right)), EdgeSide::Right) {
-        return Turn::Around(right);
+    if goal.side(Segment(root, right)) == EdgeSide::Right {
+        return Some(right);
     }
-    if point::same_side(goal.side(Segment(root, left)), EdgeSide::Left) {
-        return Turn::Around(left);
+    if goal.side(Segment(root, left)) == EdgeSide::Left {
+        return Some(left);
     }
-    Turn::Straight
+    None
 }
 
 // Returns intersection time (which is the ratio of the supposed
@@ -114,7 +100,7 @@ fn clamp(x: f32) -> f32
 // Returns the intersection point of the given line and segment, if it exists: none if the time is NaN or outside
 // -EPSILON to 1 + EPSILON, else the point at the time clamped to 0..1.
 #[tactic(auto, unfolding(crate::specs::Helpers::line_intersect_segment_of))]
-pub fn line_intersect_segment(line: Segment, segment: Segment) -> Crossing
+pub fn line_intersect_segment(line: Segment, segment: Segment) -> Option<Point>
     ensures { result ≡ line_intersect_segment_of line segment }
 {
     let time = intersection_time(line, segment);
@@ -124,7 +110,7 @@ pub fn line_intersect_segment(line: Segment, segment: Segment) -> Crossing
         // cone instead of an empty one, which lets the search see through walls.
         let along = segment.1.minus(segment.0);
         let clamped = clamp(time);
-        return Crossing::At(segment.0.plus(along.times(clamped)));
+        return Some(segment.0.plus(along.times(clamped)));
     }
-    Crossing::Nowhere
+    None
 }

@@ -5,7 +5,8 @@ use mathlib.Core.Bool.{Bool, true, false}
 use mathlib.Core.List.{List}
 use borrow.Author.Tests.{eq-eqb, ne_eqb}
 use Rattle.records.specs.declared.Record.{Record}
-use Rattle.route.specs.declared.Judged.TheVariants.{Accepted, NotEnd}
+use Rattle.std.specs.Prelude.{Ok, Err}
+use Rattle.route.specs.declared.Fault.TheVariants.{NotEnd}
 use Rattle.route.specs.Record.{record_at, end_bytes}
 use Rattle.records.specs.Records.{record_bytes, end_record}
 use Rattle.route.specs.Judge.{same_bytes, judge_end}
@@ -21,7 +22,7 @@ module _ (trip : Trip) (node : Node) (file : List ℕ) (i : ℕ) where
   abbrev last : Ending
   last = ending_of trip.goal node
 
-  pub end_outside : (node.polygon ≡ trip.to → ⊥) → end_of trip node file i ≡ NotEnd i
+  pub end_outside : (node.polygon ≡ trip.to → ⊥) → end_of trip node file i ≡ Err (NotEnd i)
   unfolding end_of is_in_goal
   end_outside n = rw (ne_eqb node.polygon trip.to n)
 
@@ -32,11 +33,11 @@ module _ (trip : Trip) (node : Node) (file : List ℕ) (i : ℕ) where
         end_tested (record_at file i) last.points trip.goal last.length
         (r ∙ ap (λ (x : Ending). end_record x.points trip.goal x.length) e) t
 
-    pub end_is : b ≡ true → end_of trip node file i ≡ Accepted
+    pub end_is : b ≡ true → end_of trip node file i ≡ Ok tt
     unfolding end_of is_in_goal
     end_is h = rw (eq-eqb node.polygon trip.to inside, tested, h)
 
-    pub end_is_not : b ≡ false → end_of trip node file i ≡ NotEnd i
+    pub end_is_not : b ≡ false → end_of trip node file i ≡ Err (NotEnd i)
     unfolding end_of is_in_goal
     end_is_not h = rw (eq-eqb node.polygon trip.to inside, tested, h)
 

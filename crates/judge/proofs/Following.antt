@@ -12,8 +12,8 @@ use Rattle.plan.specs.Plan.{polygon_count_in}
 use Rattle.stored.specs.Stored.{Floor, vertices_of, floor_in}
 use Rattle.edges.specs.Ground.{Ground}
 use Rattle.route.specs.declared.Step.{Step}
-use Rattle.route.specs.declared.Judged.TheVariants.{NotStep}
-use Rattle.route.specs.declared.Sought.TheVariants.{Found, Missing}
+use Rattle.std.specs.Prelude.{Some, None, Err}
+use Rattle.route.specs.declared.Fault.TheVariants.{NotStep}
 use Rattle.route.specs.World.{World}
 use Rattle.route.specs.Record.{record_at, seed_bytes}
 use Rattle.route.specs.Judge.{length_right, same_bytes, find_step, judge_from, judge_of}
@@ -45,7 +45,7 @@ few_points vertices node t = go (same_of (root_after vertices node t.kind) node.
 
 -- ---- what the loop keeps
 
--- The records before record i lead to this node, which stands on the floor and has fewer points than there are records; what is still to be judged is the rest.
+-- The records before record i lead to this node, which stands on the floor and has fewer points than there are records; what is to be judged is the rest.
 pub record Follows (plan vs ps : List ℕ) (trip : Trip) (file : List ℕ) (last : ℕ) (node : Node) (i : ℕ) : Type 0 where
   pub begun : 1 ≤ i
   pub upto : i ≤ last
@@ -83,7 +83,7 @@ module _ {plan vs ps : List ℕ} (g : Ground plan vs ps) (trip : Trip) (file : L
       })
 
   module _ {last : ℕ} {node : Node} {i : ℕ} (h : Follows plan vs ps trip file last node i) where
-    pub follows_on : (t : Step) {next : Node} → i < last → find_step (steps_from f trip.to node) (record_at file i) ≡ Found t
+    pub follows_on : (t : Step) {next : Node} → i < last → find_step (steps_from f trip.to node) (record_at file i) ≡ Some t
         → next ≡ enter (vertices_of vs) node t → Follows plan vs ps trip file last next (i + 1)
     unfolding world_in
     follows_on t l e k =
@@ -99,7 +99,7 @@ module _ {plan vs ps : List ℕ} (g : Ground plan vs ps) (trip : Trip) (file : L
           same = h.same ∙ goes_on_to w file node i last t l e;
         })
 
-    pub follows_stops : i < last → find_step (steps_from f trip.to node) (record_at file i) ≡ Missing → judge_of w file ≡ NotStep i
+    pub follows_stops : i < last → find_step (steps_from f trip.to node) (record_at file i) ≡ None → judge_of w file ≡ Err (NotStep i)
     unfolding world_in
     follows_stops l e = h.same ∙ stops_at w file node i last l e
 

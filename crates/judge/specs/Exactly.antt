@@ -1,30 +1,30 @@
 -- Document 01, "Each number is given exactly in its case": the case of each of the judge's verdicts. proofs/Exact says it both ways, and proofs/Numbers
 -- by the numbers. Definitions only. Assumes nothing.
-use Rattle.std.specs.Prelude.{ℕ, ◌-◌, ◌/◌, ◌<◌, ◌≡◌, List, [], ◌∷◌, ◌↔◌, ◌⊎◌, length, take}
-use Rattle.floor.specs.declared.Look.TheVariants.{Refused as LookRefused}
-use Rattle.floor.specs.declared.FloorLook.TheVariants.{Accepted as Sound}
+use Rattle.std.specs.Prelude.{ℕ, ◌-◌, ◌/◌, ◌<◌, ◌≡◌, List, [], ◌∷◌, ◌↔◌, ◌⊎◌, Result, Ok, Err, length, take}
 use Rattle.stored.specs.Stored.{floor_of, question_of}
 use Rattle.floor.specs.Exactly.{Asked, InSome, FloorCase, Case as LookCase}
 use Rattle.route.specs.World.{World, TrueRoute}
 use Rattle.route.specs.Verdict.{RouteLength, SeedFault, StepFault, EndFault, Case as RouteCase}
 use Rattle.steps.specs.declared.Node.{Node}
 use Rattle.steps.specs.World.{world_of}
-use Rattle.judge.specs.declared.Verdict.{Verdict}
-use Rattle.judge.specs.declared.Verdict.TheVariants.{Refused, Read}
+use Rattle.judge.specs.declared.Unaccepted.{Unaccepted}
+use Rattle.judge.specs.declared.Unaccepted.TheVariants.{Refused, Untrue}
 use Rattle.judge.specs.Verdict.{verdict_of, verdict_number, verdict_record}
 
 -- An accepted floor and a right question, start and goal inside.
 pub record Inside (slots : ℕ) (vertices polygons question : List ℕ) : Type 0 where
-  pub sound : FloorCase slots vertices polygons Sound
+  pub sound : FloorCase slots vertices polygons (Ok tt)
   pub asked : Asked question
   pub start_inside : InSome (floor_of slots vertices polygons) (question_of question).start
   pub goal_inside : InSome (floor_of slots vertices polygons) (question_of question).goal
 
 -- 2 to 9 in the cases of the floor and the question; 0 and 20 to 23 where these are right, in the cases of the route file
-abbrev pub Case : ℕ → List ℕ → List ℕ → List ℕ → List ℕ → Verdict → Type 0
-Case slots vertices polygons question route (Refused refusal) = LookCase slots vertices polygons question (LookRefused refusal)
-Case slots vertices polygons question route (Read judged) =
-    Inside slots vertices polygons question × RouteCase (world_of (floor_of slots vertices polygons) (question_of question)) route judged
+abbrev pub Case : ℕ → List ℕ → List ℕ → List ℕ → List ℕ → Result Unit Unaccepted → Type 0
+Case slots vertices polygons question route (Ok tt) =
+    Inside slots vertices polygons question × RouteCase (world_of (floor_of slots vertices polygons) (question_of question)) route (Ok tt)
+Case slots vertices polygons question route (Err (Refused refusal)) = LookCase slots vertices polygons question (Err refusal)
+Case slots vertices polygons question route (Err (Untrue fault)) =
+    Inside slots vertices polygons question × RouteCase (world_of (floor_of slots vertices polygons) (question_of question)) route (Err fault)
 
 -- ---- the same by document 01's numbers, wherever start and goal are `Inside`: proofs/Numbers
 

@@ -7,10 +7,10 @@
 use std::rt::Files;
 
 fn main(rt: HostRuntime) {
-    let mut vertices = console::room_for_vertices();
-    let mut polygons = console::room_for_polygons();
-    let mut question = console::room_for_question();
-    let mut route = console::room_for_route();
+    let mut vertices = console::room::<{ console::VERTICES }>();
+    let mut polygons = console::room::<{ console::POLYGONS }>();
+    let mut question = console::room::<{ console::QUESTION }>();
+    let mut route = console::room::<{ console::ROUTE }>();
     judge_files(&rt, &mut vertices, &mut polygons, &mut question, &mut route);
 }
 
@@ -25,8 +25,6 @@ fn judge_files<R: Files + Input + Print + Eprint>(
     let p = console::read_file(rt, b"floor.ply", polygons);
     let q = console::read_file(rt, b"question", question);
     let r = console::read_input(rt, route);
-    console::say(
-        rt,
-        judge::judge(&vertices[..v], &polygons[..p], &question[..q], &route[..r]).told(),
-    );
+    let verdict = judge::judge(&vertices[..v], &polygons[..p], &question[..q], &route[..r]);
+    console::say(rt, judge::told(verdict));
 }

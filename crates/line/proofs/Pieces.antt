@@ -8,7 +8,7 @@ use lib.ListN.{length, take, drop, length-append, length-drop, drop_of_length-le
 use lib.Seq.{drop-drop, take-length, take_all, take_at, drop_at, length-take-le}
 use Rattle.io.specs.Counts.{IsPrefixLen}
 use Rattle.says.specs.Words.{laid}
-use Rattle.line.specs.Put.{put_at}
+use Rattle.line.specs.Put.{put_at, Put}
 
 -- the bytes of what is laid are those at the front
 pub front_is : (text before : List ℕ) {n : ℕ} {room : List ℕ} → n ≡ length text → room ≡ laid text before → take n room ≡ text
@@ -34,10 +34,6 @@ put_both from text more before h =
   where
     there : length (take from before ++ text) ≡ from + length text
     there = simp (length-append, length-take-le from before h)
-
--- what lies in the room after some pieces: a text from a place on, and the place behind it
-abbrev pub Put : ℕ → List ℕ → List ℕ → ℕ → List ℕ → Type 0
-Put from text before n room = (n ≡ from + length text) × (room ≡ put_at from text before)
 
 pub next : (from : ℕ) (text more before : List ℕ) {n m : ℕ} {room after : List ℕ} → from ≤ length before →
     Put from text before n room → Put n more room m after → Put from (text ++ more) before m after

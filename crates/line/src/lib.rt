@@ -6,7 +6,7 @@ ghost use Rattle.io.specs.Counts.{IsPrefixLen};
 ghost use Rattle.says.specs.Words.{words_of, laid};
 ghost use Rattle.line.specs.Decimal.{decimal_of};
 ghost use Rattle.line.specs.Line.{record_part, gap_of, line_of};
-ghost use Rattle.line.specs.Put.{put_at};
+ghost use Rattle.line.specs.Put.{Put};
 
 use told::Told;
 
@@ -29,8 +29,7 @@ pub fn lay(told: Told, room: &mut [u8; 128]) -> usize
 #[tactic(auto, unfolding(crate::specs::Line::record_part, says::specs::Words::bytes_of))]
 fn put_record(told: Told, room: &mut [u8], from: usize) -> usize
     requires { from + 31 ≤ length room.old }
-    ensures value { result ≡ from + length (record_part told) }
-    ensures room_after { room.new ≡ put_at from (record_part told) room.old }
+    ensures put { Put from (record_part told) room.old result room.new }
     ensures upper_bound { result ≤ from + 31 }
 {
     match told {
@@ -46,8 +45,7 @@ fn put_record(told: Told, room: &mut [u8], from: usize) -> usize
 #[tactic(auto, unfolding(crate::specs::Line::gap_of, says::specs::Words::bytes_of))]
 fn put_gap(number: u32, room: &mut [u8], from: usize) -> usize
     requires { from + 2 ≤ length room.old }
-    ensures value { result ≡ from + length (gap_of number) }
-    ensures room_after { room.new ≡ put_at from (gap_of number) room.old }
+    ensures put { Put from (gap_of number) room.old result room.new }
     ensures upper_bound { result ≤ from + 2 }
 {
     if number == 0 {
@@ -58,8 +56,7 @@ fn put_gap(number: u32, room: &mut [u8], from: usize) -> usize
 
 fn put_words(number: u32, room: &mut [u8], from: usize) -> usize
     requires { from + 64 ≤ length room.old }
-    ensures value { result ≡ from + length (words_of number) }
-    ensures room_after { room.new ≡ put_at from (words_of number) room.old }
+    ensures put { Put from (words_of number) room.old result room.new }
     ensures upper_bound { result ≤ from + 64 }
 {
     let mut words = [0u8; 64];
@@ -69,8 +66,7 @@ fn put_words(number: u32, room: &mut [u8], from: usize) -> usize
 
 fn put_decimal(number: u64, room: &mut [u8], from: usize) -> usize
     requires { from + 20 ≤ length room.old }
-    ensures value { result ≡ from + length (decimal_of number) }
-    ensures room_after { room.new ≡ put_at from (decimal_of number) room.old }
+    ensures put { Put from (decimal_of number) room.old result room.new }
     ensures upper_bound { result ≤ from + 20 }
 {
     let mut digits = [0u8; 20];
@@ -81,8 +77,7 @@ fn put_decimal(number: u64, room: &mut [u8], from: usize) -> usize
 // The text from this place on, and the place behind it.
 fn put(text: &[u8], room: &mut [u8], from: usize) -> usize
     requires { from + length text.now ≤ length room.old }
-    ensures value { result ≡ from + length text.now }
-    ensures room_after { room.new ≡ put_at from text.now room.old }
+    ensures { Put from text.now room.old result room.new }
 {
     let n = text.len();
     room[from..from + n].copy_from_slice(text);

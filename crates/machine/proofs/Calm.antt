@@ -5,6 +5,8 @@ use mathlib.Core.Path.{◌≡◌, refl, sym, ap, ◌∙◌}
 use mathlib.Core.Bool.{Bool, true, false, cond}
 use mathlib.Core.List.{List}
 use lib.Dec.{eqb}
+use Rattle.std.specs.Prelude.{Option, Some, None}
+use Rattle.machine.specs.declared.Finish.{Finish}
 use Rattle.stored.specs.Stored.{Floor}
 use Rattle.steps.specs.declared.Node.{Node}
 use Rattle.queue.specs.Queue.{none}
@@ -15,8 +17,6 @@ use Rattle.seen.specs.Table.{key_of, Remembered, remembered_of, remembered}
 use Rattle.machine.specs.declared.Task.{Task}
 use Rattle.machine.specs.declared.Stall.{Stall}
 use Rattle.machine.specs.declared.Finish.TheVariants.{Emptied, Filled, Stopped}
-use Rattle.machine.specs.declared.Outcome.{Outcome}
-use Rattle.machine.specs.declared.Outcome.TheVariants.{Goes, Ends}
 use Rattle.machine.specs.Search.{State, Stepping, stepping, ending, Searching, searching, Turn, turning, closing, rest_of, rest_in, is_beaten}
 use Rattle.machine.specs.Search.{pursued, popped, outset, calm, noticed, table_after, watched, met, visited, step, onwards, run, searched_from}
 use Rattle.machine.specs.Before.{visited_before, step_before, onwards_before, run_before, searched_before}
@@ -49,7 +49,7 @@ module _ (f : Floor) (t : Task) where
       r : Remembered
       r = remembered x.stall.recording x.table (key_of (node_at x.state.work i))
 
-      go : (b : Bool) → (cond b (turning x Goes) (met f t x i r.entry r.table)).search.stall ≡ x.stall
+      go : (b : Bool) → (cond b (turning x None) (met f t x i r.entry r.table)).search.stall ≡ x.stall
       go true = refl
       go false = stall_met x i r.entry r.table
 
@@ -59,7 +59,7 @@ module _ (f : Floor) (t : Task) where
       → visited f t x i ≡ turning (searching (visited_before f t x.state i).state x.stall x.table) (visited_before f t x.state i).outcome
   unfolding visited visited_before
   calm_visited x i e =
-      ap (λ (r : Remembered). cond (is_beaten x.state node) (turning x Goes) (met f t x i r.entry r.table))
+      ap (λ (r : Remembered). cond (is_beaten x.state node) (turning x None) (met f t x i r.entry r.table))
       (nothing_remembered x.stall.recording x.table (key_of node) e)
       ∙ go (is_beaten x.state node)
     where
@@ -69,8 +69,8 @@ module _ (f : Floor) (t : Task) where
       on : Stepping
       on = pursued f t x.state i
 
-      go : (b : Bool) → cond b (turning x Goes) (turning (searching on.state x.stall x.table) on.outcome)
-          ≡ turning (searching (cond b (stepping x.state Goes) on).state x.stall x.table) (cond b (stepping x.state Goes) on).outcome
+      go : (b : Bool) → cond b (turning x None) (turning (searching on.state x.stall x.table) on.outcome)
+          ≡ turning (searching (cond b (stepping x.state None) on).state x.stall x.table) (cond b (stepping x.state None) on).outcome
       go true = refl
       go false = refl
 
@@ -100,7 +100,7 @@ module _ (f : Floor) (t : Task) where
     unfolding step
     recording_step = go (eqb least none)
       where
-        go : (b : Bool) → (cond b (turning x (Ends Emptied)) (visited f t next least)).search.stall.recording ≡ false → x.stall.recording ≡ false
+        go : (b : Bool) → (cond b (turning x (Some Emptied)) (visited f t next least)).search.stall.recording ≡ false → x.stall.recording ≡ false
         go true e = e
         go false e = next_before (ap (λ (s : Stall). s.recording) (sym (stall_visited next least)) ∙ e)
 
@@ -109,9 +109,9 @@ module _ (f : Floor) (t : Task) where
     unfolding step step_before
     calm_step = go (eqb least none)
       where
-        go : (b : Bool) → (cond b (turning x (Ends Emptied)) (visited f t next least)).search.stall.recording ≡ false
-            → Alike (cond b (turning x (Ends Emptied)) (visited f t next least))
-            (cond b (stepping x.state (Ends Emptied)) (visited_before f t (popped f t x.state least) least)) x.table
+        go : (b : Bool) → (cond b (turning x (Some Emptied)) (visited f t next least)).search.stall.recording ≡ false
+            → Alike (cond b (turning x (Some Emptied)) (visited f t next least))
+            (cond b (stepping x.state (Some Emptied)) (visited_before f t (popped f t x.state least) least)) x.table
         go true e = record { state_same = refl; outcome_same = refl; table_same = refl }
         go false e =
             let quiet = ap (λ (s : Stall). s.recording) (sym (stall_visited next least)) ∙ e in
@@ -137,10 +137,10 @@ module _ (f : Floor) (t : Task) where
       after : Searching
       after = (step f t x).search
 
-      go : (o : Outcome) → ((u : Searching) → (run f t budget u).search.stall.recording ≡ false → u.stall.recording ≡ false)
+      go : (o : Option Finish) → ((u : Searching) → (run f t budget u).search.stall.recording ≡ false → u.stall.recording ≡ false)
           → (onwards f t after o (run f t budget)).search.stall.recording ≡ false → x.stall.recording ≡ false
-      go Goes rest e = recording_step x (rest after e)
-      go (Ends finish) rest e = recording_step x e
+      go None rest e = recording_step x (rest after e)
+      go (Some finish) rest e = recording_step x e
 
   pub calm_run : (budget : ℕ) (x : Searching) → (run f t budget x).search.stall.recording ≡ false
       → rest_in (run f t budget x) ≡ rest_of (run_before f t budget x.state) x.table
@@ -159,15 +159,15 @@ module _ (f : Floor) (t : Task) where
       was : Stepping
       was = step_before f t x.state
 
-      go : (o : Outcome) → (step f t x).outcome ≡ o
+      go : (o : Option Finish) → (step f t x).outcome ≡ o
           → ((u : Searching) → (run f t budget u).search.stall.recording ≡ false
           → rest_in (run f t budget u) ≡ rest_of (run_before f t budget u.state) u.table)
           → (onwards f t after o (run f t budget)).search.stall.recording ≡ false
           → rest_in (onwards f t after o (run f t budget)) ≡ rest_of (onwards_before f t was.state was.outcome (run_before f t budget)) x.table
-      go Goes d rest e =
+      go None d rest e =
           let same = calm_step x (recording_run budget after e) in
           rest after e ∙ rw (same.state_same, same.table_same, ← same.outcome_same, d) refl
-      go (Ends finish) d rest e =
+      go (Some finish) d rest e =
           let same = calm_step x e in
           rw (same.state_same, same.table_same, ← same.outcome_same, d) refl
 

@@ -6,6 +6,7 @@ use mathlib.Core.Bool.{Bool, true, false, cond, ◌||◌}
 use mathlib.Core.List.{List, [], ◌∷◌}
 use lib.Dec.{leb, ltb, eqb}
 use lib.Ieee.{Float, binary32, add, is_nan}
+use Rattle.std.specs.Prelude.{Some, None}
 use Rattle.helpers.specs.Helpers.{heuristic_of}
 use Rattle.stored.specs.Stored.{Floor}
 use Rattle.route.specs.declared.Step.{Step}
@@ -17,7 +18,6 @@ use Rattle.queue.specs.Queue.{none}
 use Rattle.machine.specs.declared.Task.{Task}
 use Rattle.machine.specs.declared.Origin.{Origin}
 use Rattle.machine.specs.declared.Finish.TheVariants.{Arrived, Emptied, Filled}
-use Rattle.machine.specs.declared.Outcome.TheVariants.{Goes, Ends}
 use Rattle.places.specs.Layout.{node_at, record_for, put_queued, least_in, f_at}
 use Rattle.seen.specs.declared.Entry.{Entry}
 use Rattle.seen.specs.declared.Entry.TheVariants.{New, Seen, NoRoom}
@@ -87,7 +87,7 @@ module _ (f : Floor) (t : Task) where
   pops_after : (m : Making) → (after_making f t m).state.counts.pops ≡ m.state.counts.pops
   pops_after m = go m.full
     where
-      go : (b : Bool) → (cond b (stepping m.state (Ends Filled)) (stepping m.state Goes)).state.counts.pops ≡ m.state.counts.pops
+      go : (b : Bool) → (cond b (stepping m.state (Some Filled)) (stepping m.state None)).state.counts.pops ≡ m.state.counts.pops
       go true = refl
       go false = refl
 
@@ -98,7 +98,7 @@ module _ (f : Floor) (t : Task) where
       m : Making
       m = made_all f t s (origin_at s.work i) (steps_from f t.trip.to (node_at s.work i))
 
-      go : (b : Bool) → (cond b (stepping s (Ends (Arrived i))) (after_making f t m)).state.counts.pops ≡ s.counts.pops
+      go : (b : Bool) → (cond b (stepping s (Some (Arrived i))) (after_making f t m)).state.counts.pops ≡ s.counts.pops
       go true = refl
       go false = pops_after m ∙ pops_made_all (steps_from f t.trip.to (node_at s.work i)) s (origin_at s.work i)
 
@@ -114,7 +114,7 @@ module _ (f : Floor) (t : Task) where
       r : Remembered
       r = remembered x.stall.recording x.table (key_of (node_at x.state.work i))
 
-      go : (b : Bool) → (cond b (turning x Goes) (met f t x i r.entry r.table)).search.state.counts.pops ≡ x.state.counts.pops
+      go : (b : Bool) → (cond b (turning x None) (met f t x i r.entry r.table)).search.state.counts.pops ≡ x.state.counts.pops
       go true = refl
       go false = pops_met x i r.entry r.table
 
@@ -133,6 +133,6 @@ module _ (f : Floor) (t : Task) where
       next : Searching
       next = watched x (popped f t x.state i) (f_at x.state.work i)
 
-      go : (b : Bool) → (cond b (turning x (Ends Emptied)) (visited f t next i)).search.state.counts.pops ≤ x.state.counts.pops + 1
+      go : (b : Bool) → (cond b (turning x (Some Emptied)) (visited f t next i)).search.state.counts.pops ≤ x.state.counts.pops + 1
       go true = omega arith
       go false = omega (arith, pops_visited next i, pops_next x i (f_at x.state.work i))

@@ -9,6 +9,7 @@ use mathlib.Core.Logic.{◌↔◌}
 use borrow.Author.Tests.{ltb-true, lt-ltb}
 use lib.Dec.{ltb}
 use lib.Ieee.{Float, lt}
+use Rattle.std.specs.Prelude.{None}
 use Rattle.stored.specs.Stored.{Floor}
 use Rattle.places.specs.Layout.{node_at}
 use Rattle.seen.specs.declared.Entry.TheVariants.{Seen}
@@ -17,7 +18,6 @@ use Rattle.seen.specs.Kept.{IsKey, Kept}
 use Rattle.seen.proofs.Holding.{kept_seen}
 use Rattle.machine.specs.declared.Task.{Task}
 use Rattle.machine.specs.declared.Stall.{Stall}
-use Rattle.machine.specs.declared.Outcome.TheVariants.{Goes}
 use Rattle.machine.specs.Search.{Searching, turning, is_beaten, noticed, met, visited}
 
 -- ---- when recording begins
@@ -45,10 +45,10 @@ module _ (s : Stall) (value : Float) (quiet : s.recording ≡ false) (low : lt s
 
 -- a popped node whose ten words are among those that were entered is dropped: no node is made, no entry is written, and the search goes on
 pub entered_is_dropped : (f : Floor) (t : Task) (x : Searching) (i : ℕ) {keys : List (List ℕ)} → x.stall.recording ≡ true → Kept keys x.table
-    → let key = key_of (node_at x.state.work i) in IsKey key → Memᴰ key keys → visited f t x i ≡ turning x Goes
+    → let key = key_of (node_at x.state.work i) in IsKey key → Memᴰ key keys → visited f t x i ≡ turning x None
 unfolding visited
 entered_is_dropped f t x i recording kept isk among =
-    ap (λ (r : Remembered). cond (is_beaten x.state (node_at x.state.work i)) (turning x Goes) (met f t x i r.entry r.table)) told
+    ap (λ (r : Remembered). cond (is_beaten x.state (node_at x.state.work i)) (turning x None) (met f t x i r.entry r.table)) told
     ∙ go (is_beaten x.state (node_at x.state.work i))
   where
     key : List ℕ
@@ -60,6 +60,6 @@ entered_is_dropped f t x i recording kept isk among =
     told : remembered x.stall.recording x.table key ≡ remembered_of Seen x.table
     told = unfold remembered in rw (recording, seen)
 
-    go : (b : Bool) → cond b (turning x Goes) (met f t x i Seen x.table) ≡ turning x Goes
+    go : (b : Bool) → cond b (turning x None) (met f t x i Seen x.table) ≡ turning x None
     go true = refl
     go false = refl

@@ -6,6 +6,7 @@ use mathlib.Core.Bool.{Bool, true, false, cond}
 use mathlib.Core.List.{List}
 use mathlib.Core.Logic.{◌↔◌, inl, inr}
 use lib.Dec.{eqb}
+use Rattle.std.specs.Prelude.{Option, Some, None}
 use Rattle.stored.specs.Stored.{Floor}
 use Rattle.steps.specs.declared.Node.{Node}
 use Rattle.queue.specs.Queue.{none}
@@ -16,8 +17,6 @@ use Rattle.seen.specs.Table.{key_of, is_seen, is_full, entered, Remembered, reme
 use Rattle.machine.specs.declared.Task.{Task}
 use Rattle.machine.specs.declared.Finish.{Finish}
 use Rattle.machine.specs.declared.Finish.TheVariants.{Emptied, Stopped, Crowded}
-use Rattle.machine.specs.declared.Outcome.{Outcome}
-use Rattle.machine.specs.declared.Outcome.TheVariants.{Goes, Ends}
 use Rattle.machine.specs.Search.{Searching, turning, closing, is_beaten, met, visited, step, onwards, run}
 use Rattle.machine.specs.Crowded.{next_place, after_pop, Crowds, CrowdsWithin}
 use Rattle.machine.proofs.Room.{goes_not, empties_not, pursued_not}
@@ -48,7 +47,7 @@ refuses_exactly recording table key = (to recording (is_seen table key) (is_full
 -- ---- a node, a step
 
 module _ (f : Floor) (t : Task) where
-  met_exactly : (x : Searching) (i : ℕ) (e : Entry) (table : List ℕ) → (met f t x i e table).outcome ≡ Ends Crowded ↔ (e ≡ NoRoom)
+  met_exactly : (x : Searching) (i : ℕ) (e : Entry) (table : List ℕ) → (met f t x i e table).outcome ≡ Some Crowded ↔ (e ≡ NoRoom)
   met_exactly x i New table = ((λ h. absurd (pursued_not f t x.state i h)), (λ h. let w : ◌≡◌ {A = ℕ} 0 1 = cc in absurd (omega arith)))
   met_exactly x i Seen table = ((λ h. goes_not f t h), (λ h. let w : ◌≡◌ {A = ℕ} 0 1 = cc in absurd (omega arith)))
   met_exactly x i NoRoom table = ((λ h. refl), (λ h. refl))
@@ -66,21 +65,21 @@ module _ (f : Floor) (t : Task) where
     abbrev told : Remembered
     told = remembered y.stall.recording y.table (key_of node)
 
-    step_exactly : (step f t x).outcome ≡ Ends Crowded ↔ Crowds f t x
+    step_exactly : (step f t x).outcome ≡ Some Crowded ↔ Crowds f t x
     unfolding step visited
     step_exactly = (to (eqb i none) refl (is_beaten y.state node) refl, back)
       where
-        by : Bool → Bool → Outcome
-        by a b = (cond a (turning x (Ends Emptied)) (cond b (turning y Goes) (met f t y i told.entry told.table))).outcome
+        by : Bool → Bool → Option Finish
+        by a b = (cond a (turning x (Some Emptied)) (cond b (turning y None) (met f t y i told.entry told.table))).outcome
 
-        to : (a : Bool) → eqb i none ≡ a → (b : Bool) → is_beaten y.state node ≡ b → by a b ≡ Ends Crowded → Crowds f t x
+        to : (a : Bool) → eqb i none ≡ a → (b : Bool) → is_beaten y.state node ≡ b → by a b ≡ Some Crowded → Crowds f t x
         to true d b h e = empties_not f t e
         to false d true h e = goes_not f t e
         to false d false h e =
             let r = (refuses_exactly y.stall.recording y.table (key_of node)).0 ((met_exactly y i told.entry told.table).0 e) in
             record { pops = d; recording = r.records; unbeaten = h; unseen = r.unseen; full = r.full }
 
-        back : Crowds f t x → by (eqb i none) (is_beaten y.state node) ≡ Ends Crowded
+        back : Crowds f t x → by (eqb i none) (is_beaten y.state node) ≡ Some Crowded
         back h =
             let full = (refuses_exactly y.stall.recording y.table (key_of node)).1
             (record { records = h.recording; unseen = h.unseen; full = h.full }) in
@@ -89,7 +88,7 @@ module _ (f : Floor) (t : Task) where
 
   -- ---- a run
 
-  finish_is : {a b : Finish} → ◌≡◌ {A = Outcome} (Ends a) (Ends b) → a ≡ b
+  finish_is : {a b : Finish} → ◌≡◌ {A = Option Finish} (Some a) (Some b) → a ≡ b
   finish_is e = cc
 
   pub crowded_within : (budget : ℕ) (x : Searching) → (run f t budget x).finish ≡ Crowded → CrowdsWithin f t budget x
@@ -101,16 +100,16 @@ module _ (f : Floor) (t : Task) where
       go false e = let w : ◌≡◌ {A = ℕ} 0 1 = cc in absurd (omega arith)
   crowded_within (suc budget) x = go (step f t x).outcome refl (crowded_within budget)
     where
-      go : (o : Outcome) → (step f t x).outcome ≡ o
+      go : (o : Option Finish) → (step f t x).outcome ≡ o
           → ((u : Searching) → (run f t budget u).finish ≡ Crowded → CrowdsWithin f t budget u)
           → (onwards f t (step f t x).search o (run f t budget)).finish ≡ Crowded → CrowdsWithin f t (suc budget) x
-      go Goes d rest e = inr (d, rest (step f t x).search e)
-      go (Ends finish) d rest e = inl ((step_exactly x).0 (d ∙ ap Ends e))
+      go None d rest e = inr (d, rest (step f t x).search e)
+      go (Some finish) d rest e = inl ((step_exactly x).0 (d ∙ ap Some e))
 
   pub within_crowded : (budget : ℕ) (x : Searching) → CrowdsWithin f t budget x → (run f t budget x).finish ≡ Crowded
   unfolding run
   within_crowded zero x h = absurd h
   within_crowded (suc budget) x (inl h) =
-      ap (λ (o : Outcome). (onwards f t (step f t x).search o (run f t budget)).finish) ((step_exactly x).1 h)
+      ap (λ (o : Option Finish). (onwards f t (step f t x).search o (run f t budget)).finish) ((step_exactly x).1 h)
   within_crowded (suc budget) x (inr h) =
-      ap (λ (o : Outcome). (onwards f t (step f t x).search o (run f t budget)).finish) h.0 ∙ within_crowded budget (step f t x).search h.1
+      ap (λ (o : Option Finish). (onwards f t (step f t x).search o (run f t budget)).finish) h.0 ∙ within_crowded budget (step f t x).search h.1

@@ -10,6 +10,8 @@ use borrow.Author.Tests.{eqb-false, leb-false}
 use lib.Dec.{T, eqb, leb, ltb}
 use lib.Ieee.{Float, binary32, add, is_nan}
 use lib.ListN.{length}
+use Rattle.std.specs.Prelude.{Option, Some, None}
+use Rattle.machine.specs.declared.Finish.{Finish}
 use Rattle.point.specs.Point.{same_of}
 use Rattle.helpers.specs.Helpers.{heuristic_of}
 use Rattle.cut.specs.declared.SuccessorType.{SuccessorType}
@@ -31,8 +33,6 @@ use Rattle.machine.specs.declared.Task.{Task}
 use Rattle.machine.specs.declared.Counts.{Counts}
 use Rattle.machine.specs.declared.Origin.{Origin}
 use Rattle.machine.specs.declared.Finish.TheVariants.{Arrived, Emptied, Filled, Stopped, Crowded}
-use Rattle.machine.specs.declared.Outcome.{Outcome}
-use Rattle.machine.specs.declared.Outcome.TheVariants.{Goes, Ends}
 use Rattle.places.specs.Layout.{floats_per_place, words_per_place, polygon_cell, seed_kind, Work, work_of, word_at, node_in, node_at, step_at, parent_at, depth_at}
 use Rattle.places.specs.Layout.{number_at}
 use Rattle.places.specs.Layout.{f_at, is_queued, put_node, record_for, record_put, distance_put, put_queued, least_in}
@@ -564,13 +564,13 @@ module _ (plan vs ps : List ℕ) (t : Task) (seed : Node) where
     origin_of s i l = record { place_in = l; node_is = refl; depth_is = refl }
 
     -- where a search arrived: a place that is taken, in the goal polygon
-    abbrev pub Arrives : State → Outcome → Type 0
-    Arrives s (Ends (Arrived i)) = (i < s.counts.taken) × (is_in_goal t.trip.to (node_at s.work i) ≡ true)
-    Arrives s (Ends Emptied) = Unit {0}
-    Arrives s (Ends Filled) = Unit {0}
-    Arrives s (Ends Stopped) = Unit {0}
-    Arrives s (Ends Crowded) = Unit {0}
-    Arrives s Goes = Unit {0}
+    abbrev pub Arrives : State → Option Finish → Type 0
+    Arrives s (Some (Arrived i)) = (i < s.counts.taken) × (is_in_goal t.trip.to (node_at s.work i) ≡ true)
+    Arrives s (Some Emptied) = Unit {0}
+    Arrives s (Some Filled) = Unit {0}
+    Arrives s (Some Stopped) = Unit {0}
+    Arrives s (Some Crowded) = Unit {0}
+    Arrives s None = Unit {0}
 
     pub record Steps (after : search.Stepping) : Type 0 where
       pub sound : Sound plan vs ps t seed after.state
@@ -579,7 +579,7 @@ module _ (plan vs ps : List ℕ) (t : Task) (seed : Node) where
     after_making_lem : (m : search.Making) → Sound plan vs ps t seed m.state → Steps (search.after_making f t m)
     after_making_lem m h = go m.full
       where
-        go : (b : Bool) → Steps (cond b (search.stepping m.state (Ends Filled)) (search.stepping m.state Goes))
+        go : (b : Bool) → Steps (cond b (search.stepping m.state (Some Filled)) (search.stepping m.state None))
         go true = record { sound = h; arrives = tt }
         go false = record { sound = h; arrives = tt }
 
@@ -599,7 +599,7 @@ module _ (plan vs ps : List ℕ) (t : Task) (seed : Node) where
         steps = steps_from f t.trip.to (node_at s.work i)
 
         go : (b : Bool) → is_in_goal t.trip.to (node_at s.work i) ≡ b
-            → Steps (cond b (search.stepping s (Ends (Arrived i))) (search.after_making f t (search.made_all f t s o steps)))
+            → Steps (cond b (search.stepping s (Some (Arrived i))) (search.after_making f t (search.made_all f t s o steps)))
         go true e = record { sound = h; arrives = (l, e) }
         go false e = after_making_lem (search.made_all f t s o steps) (sound_made_all steps s o h (origin_of s i l) (own_steps s i)).sound
 
@@ -630,7 +630,7 @@ module _ (plan vs ps : List ℕ) (t : Task) (seed : Node) where
     numbered_after : (m : search.Making) → Numbered m.state → Numbered (search.after_making f t m).state
     numbered_after m h = go m.full
       where
-        go : (b : Bool) → Numbered (cond b (search.stepping m.state (Ends Filled)) (search.stepping m.state Goes)).state
+        go : (b : Bool) → Numbered (cond b (search.stepping m.state (Some Filled)) (search.stepping m.state None)).state
         go true = h
         go false = h
 
@@ -647,7 +647,7 @@ module _ (plan vs ps : List ℕ) (t : Task) (seed : Node) where
         made' : search.Making
         made' = search.made_all f t s o steps
 
-        go : (b : Bool) → Numbered (cond b (search.stepping s (Ends (Arrived i))) (search.after_making f t made')).state
+        go : (b : Bool) → Numbered (cond b (search.stepping s (Some (Arrived i))) (search.after_making f t made')).state
         go true = numbered
         go false = numbered_after made' ((sound_made_all steps s o h (origin_of s i l) (own_steps s i)).numbered numbered)
 

@@ -6,6 +6,7 @@ use mathlib.Core.Bool.{Bool, true, false, cond}
 use mathlib.Core.List.{List}
 use mathlib.Core.Logic.{inl, inr}
 use lib.Dec.{eqb}
+use Rattle.std.specs.Prelude.{Some, None}
 use Rattle.float.proofs.Tests.{untrue}
 use Rattle.plan.specs.Plan.{polygon_count_in}
 use Rattle.stored.specs.Stored.{Floor, floor_in}
@@ -19,7 +20,6 @@ use Rattle.seen.proofs.Holding.{kept_full}
 use Rattle.machine.specs.declared.Task.{Task}
 use Rattle.machine.specs.declared.Stall.{Stall}
 use Rattle.machine.specs.declared.Finish.TheVariants.{Emptied, Filled, Crowded}
-use Rattle.machine.specs.declared.Outcome.TheVariants.{Goes, Ends}
 use Rattle.machine.specs.Search.{Searching, searching, turning, closing, is_beaten, outset, calm, noticed, watched, met, visited, step, run, searched_from}
 use Rattle.machine.specs.Sound.{Sound}
 use Rattle.machine.specs.Crowded.{next_place, after_pop, Crowds, CrowdsWithin}
@@ -75,7 +75,7 @@ module _ (plan vs ps : List ℕ) (t : Task) (seed : Node) (g : Ground plan vs ps
             holds_remembered y.stall.recording y.table (key_of node) x.state.counts.pops r held
             (place_key plan vs ps t seed y.state i (next_sound plan vs ps t seed g x h e) (next_below plan vs ps t seed g x h e))
 
-        go : (b : Bool) → Holds (cond b (turning y Goes) (met f t y i told.entry told.table)).search.table (x.state.counts.pops + 1)
+        go : (b : Bool) → Holds (cond b (turning y None) (met f t y i told.entry told.table)).search.table (x.state.counts.pops + 1)
         go true = record { keys = held.keys; kept = held.kept; few = omega (arith, held.few) }
         go false = rw (table_met f t y i told.entry told.table) met_table
 
@@ -83,7 +83,7 @@ module _ (plan vs ps : List ℕ) (t : Task) (seed : Node) (g : Ground plan vs ps
     unfolding step
     spare_step = go (eqb i none) refl
       where
-        go : (b : Bool) → eqb i none ≡ b → Spare (cond b (turning x (Ends Emptied)) (visited f t y i)).search
+        go : (b : Bool) → eqb i none ≡ b → Spare (cond b (turning x (Some Emptied)) (visited f t y i)).search
         go true e r = spare r
         go false e r =
             let pops = pops_visited f t y i ∙ pops_next f t x i (f_at x.state.work i) in
@@ -93,7 +93,7 @@ module _ (plan vs ps : List ℕ) (t : Task) (seed : Node) (g : Ground plan vs ps
     unfolding step
     entries_step = go (eqb i none)
       where
-        go : (b : Bool) → entries_in (cond b (turning x (Ends Emptied)) (visited f t y i)).search.table ≡ entries_in x.table
+        go : (b : Bool) → entries_in (cond b (turning x (Some Emptied)) (visited f t y i)).search.table ≡ entries_in x.table
         go true = refl
         go false = entries_visited f t y i ∙ entries_next
 

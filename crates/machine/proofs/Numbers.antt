@@ -8,6 +8,7 @@ use borrow.Author.Tests.{ltb-true, ltb-false}
 use lib.Dec.{T, leb, ltb}
 use lib.Ieee.{Float, nan, inf, fin, binary32, add, sub, mul, neg, lt, is_nan}
 use lib.ListN.{length}
+use Rattle.std.specs.Prelude.{Option, Some, None}
 use Rattle.float.proofs.Tests.{untrue}
 use Rattle.float.proofs.Nan.{is_nan_lem}
 use Rattle.root.specs.Root.{root_of}
@@ -18,8 +19,6 @@ use Rattle.stored.specs.Stored.{Floor}
 use Rattle.route.specs.declared.Step.{Step}
 use Rattle.route.specs.Step.{kind_number}
 use Rattle.steps.specs.declared.Node.{Node}
-use Rattle.steps.specs.declared.Permitted.{Permitted}
-use Rattle.steps.specs.declared.Permitted.TheVariants.{Yes, No}
 use Rattle.steps.specs.Steps.{enter, root_after}
 use Rattle.places.specs.Layout.{floats_per_place, record_root, record_for, record_distance, record_put, distance_put, put_queued}
 use Rattle.places.proofs.Rows.{put_floats_length}
@@ -166,9 +165,9 @@ module _ (root : Point) (r : ℕ) where
         go false true = h
         go false false = on_taken t.places s o (kind_number step.kind) node value h
 
-    pub on_made_if : (s : State) (o : Origin) (p : Permitted) → OnRecord s root r → OnRecord (made_if f t s o p).state root r
-    on_made_if s o (Yes step) h = on_made s o step h
-    on_made_if s o No h = h
+    pub on_made_if : (s : State) (o : Origin) (p : Option Step) → OnRecord s root r → OnRecord (made_if f t s o p).state root r
+    on_made_if s o (Some step) h = on_made s o step h
+    on_made_if s o None h = h
 
 -- ---- a root that was not comes to be
 

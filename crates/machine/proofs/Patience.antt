@@ -8,6 +8,8 @@ use mathlib.Core.List.{List}
 use borrow.Author.Tests.{ltb-true}
 use lib.Dec.{T, eqb, ltb}
 use lib.Ieee.{Float, nan, inf, fin, lt, is_nan}
+use Rattle.std.specs.Prelude.{Option, Some, None}
+use Rattle.machine.specs.declared.Finish.{Finish}
 use Rattle.float.proofs.Tests.{untrue}
 use Rattle.plan.specs.Plan.{polygon_count_in}
 use Rattle.stored.specs.Stored.{Floor, floor_in}
@@ -19,8 +21,6 @@ use Rattle.places.specs.Layout.{Work, Room, least_in, f_at}
 use Rattle.machine.specs.declared.Task.{Task}
 use Rattle.machine.specs.declared.Stall.{Stall}
 use Rattle.machine.specs.declared.Finish.TheVariants.{Emptied, Filled, Stopped}
-use Rattle.machine.specs.declared.Outcome.{Outcome}
-use Rattle.machine.specs.declared.Outcome.TheVariants.{Goes, Ends}
 use Rattle.machine.specs.Search.{Searching, searching, turning, closing, popped, begun, seed_origin, outset, patience, calm, noticed, watched, visited}
 use Rattle.machine.specs.Search.{step, onwards, run, searched_from}
 use Rattle.machine.specs.Sound.{is_plus, Sound}
@@ -103,7 +103,7 @@ module _ (plan vs ps : List ℕ) (t : Task) (seed : Node) (g : Ground plan vs ps
       next_stall : next.stall ≡ noticed x.stall value
       next_stall = unfold watched in refl
 
-      go : (b : Bool) → eqb i none ≡ b → PatientSearch (cond b (turning x (Ends Emptied)) (visited f t next i)).search
+      go : (b : Bool) → eqb i none ≡ b → PatientSearch (cond b (turning x (Some Emptied)) (visited f t next i)).search
       go true e = p
       go false e =
           let q = popped_queued plan vs ps t seed g x.state h e in
@@ -123,11 +123,11 @@ module _ (plan vs ps : List ℕ) (t : Task) (seed : Node) (g : Ground plan vs ps
       after : Searching
       after = (step f t x).search
 
-      go : (o : Outcome) → Sound plan vs ps t seed after.state → PatientSearch after
+      go : (o : Option Finish) → Sound plan vs ps t seed after.state → PatientSearch after
           → ((u : Searching) → Sound plan vs ps t seed u.state → PatientSearch u → PatientSearch (run f t budget u).search)
           → PatientSearch (onwards f t after o (run f t budget)).search
-      go Goes h p rest = rest after h p
-      go (Ends finish) h p rest = p
+      go None h p rest = rest after h p
+      go (Some finish) h p rest = p
 
 -- ---- a search
 

@@ -8,6 +8,8 @@ use mathlib.Core.List.{List, [], ◌∷◌}
 use borrow.Author.Tests.{leb-false}
 use lib.Dec.{eqb, leb, ltb}
 use lib.Ieee.{Float, binary32, add, is_nan}
+use Rattle.std.specs.Prelude.{Option, Some, None}
+use Rattle.machine.specs.declared.Finish.{Finish}
 use Rattle.counts.specs.Counts.{tally}
 use Rattle.counts.proofs.Tally.{tally_none, tally_more, tally_less}
 use Rattle.helpers.specs.Helpers.{heuristic_of}
@@ -30,8 +32,6 @@ use Rattle.places.proofs.Queued.{put_queued_here, put_queued_other}
 use Rattle.machine.specs.declared.Task.{Task}
 use Rattle.machine.specs.declared.Origin.{Origin}
 use Rattle.machine.specs.declared.Finish.TheVariants.{Arrived, Emptied, Filled, Stopped}
-use Rattle.machine.specs.declared.Outcome.{Outcome}
-use Rattle.machine.specs.declared.Outcome.TheVariants.{Goes, Ends}
 use Rattle.machine.specs.Search.{State, state_of, Making, making, took_place, counted, is_beaten, recorded, kept, queued, placed, taken}
 use Rattle.machine.specs.Search.{made, made_all, origin_at, stepping, pursued, popped, begun, seed_origin, outset}
 use Rattle.machine.specs.Search.{Searching, searching, turning, closing, calm, watched, met, visited, step, onwards, run, searched_from}
@@ -188,7 +188,7 @@ module _ (plan vs ps : List ℕ) (t : Task) (seed : Node) (g : Ground plan vs ps
           (own_steps plan vs ps t seed g s i) a
 
       go : (b c : Bool)
-          → Ahead t.places (cond b (stepping s (Ends (Arrived i))) (cond c (stepping m.state (Ends Filled)) (stepping m.state Goes))).state
+          → Ahead t.places (cond b (stepping s (Some (Arrived i))) (cond c (stepping m.state (Some Filled)) (stepping m.state None))).state
       go true c = a
       go false true = made_ahead
       go false false = made_ahead
@@ -209,7 +209,7 @@ module _ (plan vs ps : List ℕ) (t : Task) (seed : Node) (g : Ground plan vs ps
       r : Remembered
       r = remembered x.stall.recording x.table (key_of (node_at x.state.work i))
 
-      go : (b : Bool) → Ahead t.places (cond b (turning x Goes) (met f t x i r.entry r.table)).search.state
+      go : (b : Bool) → Ahead t.places (cond b (turning x None) (met f t x i r.entry r.table)).search.state
       go true = a
       go false = ahead_met x i r.entry r.table h l a
 
@@ -228,7 +228,7 @@ module _ (plan vs ps : List ℕ) (t : Task) (seed : Node) (g : Ground plan vs ps
     unfolding step
     ahead_step = go (eqb least none) refl
       where
-        go : (b : Bool) → eqb least none ≡ b → Ahead t.places (cond b (turning x (Ends Emptied)) (visited f t next least)).search.state
+        go : (b : Bool) → eqb least none ≡ b → Ahead t.places (cond b (turning x (Some Emptied)) (visited f t next least)).search.state
         go true e = a
         go false e = ahead_visited next least (next_sound plan vs ps t seed g x h e) (next_below plan vs ps t seed g x h e) (next_ahead e)
 
@@ -246,11 +246,11 @@ module _ (plan vs ps : List ℕ) (t : Task) (seed : Node) (g : Ground plan vs ps
       after : Searching
       after = (step f t x).search
 
-      go : (o : Outcome) → Sound plan vs ps t seed after.state → Ahead t.places after.state
+      go : (o : Option Finish) → Sound plan vs ps t seed after.state → Ahead t.places after.state
           → ((u : Searching) → Sound plan vs ps t seed u.state → Ahead t.places u.state → Ahead t.places (run f t budget u).search.state)
           → Ahead t.places (onwards f t after o (run f t budget)).search.state
-      go Goes h a rest = rest after h a
-      go (Ends finish) h a rest = a
+      go None h a rest = rest after h a
+      go (Some finish) h a rest = a
 
 -- ---- a search
 

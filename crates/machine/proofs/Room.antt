@@ -7,6 +7,8 @@ use mathlib.Core.Bool.{Bool, true, false, cond}
 use mathlib.Core.List.{List, [], ◌∷◌}
 use mathlib.Core.Logic.{◌⊎◌, inl, inr}
 use lib.ListN.{length}
+use Rattle.std.specs.Prelude.{Option, Some, None}
+use Rattle.machine.specs.declared.Finish.{Finish}
 use Rattle.float.proofs.Tests.{untrue}
 use Rattle.stored.specs.Stored.{Floor}
 use Rattle.steps.specs.Steps.{steps_from}
@@ -21,8 +23,6 @@ use Rattle.seen.proofs.Remembering.{remembered_entries, kept_remembered_keys}
 use Rattle.machine.specs.declared.Task.{Task}
 use Rattle.machine.specs.declared.Stall.{Stall}
 use Rattle.machine.specs.declared.Finish.TheVariants.{Arrived, Emptied, Filled, Crowded}
-use Rattle.machine.specs.declared.Outcome.{Outcome}
-use Rattle.machine.specs.declared.Outcome.TheVariants.{Goes, Ends}
 use Rattle.machine.specs.Search.{State, Making, stepping, Searching, turning, is_beaten, origin_at, made_all, pursued}
 use Rattle.machine.specs.Search.{table_after, met, visited}
 
@@ -87,34 +87,34 @@ module _ (f : Floor) (t : Task) where
       r : Remembered
       r = remembered x.stall.recording x.table (key_of (node_at x.state.work i))
 
-      go : (b : Bool) → entries_in (cond b (turning x Goes) (met f t x i r.entry r.table)).search.table ≡ entries_in x.table
+      go : (b : Bool) → entries_in (cond b (turning x None) (met f t x i r.entry r.table)).search.table ≡ entries_in x.table
       go true = refl
       go false =
           ap entries_in (table_met x i r.entry r.table) ∙ remembered_entries x.stall.recording x.table (key_of (node_at x.state.work i))
 
   -- ---- a node that is new does not end the search so
 
-  pub goes_not : {A : Type 0} → ◌≡◌ {A = Outcome} Goes (Ends Crowded) → A
+  pub goes_not : {A : Type 0} → ◌≡◌ {A = Option Finish} None (Some Crowded) → A
   goes_not e = let z : ◌≡◌ {A = ℕ} 0 1 = cc in absurd (omega arith)
 
-  arrives_not : {A : Type 0} (i : ℕ) → ◌≡◌ {A = Outcome} (Ends (Arrived i)) (Ends Crowded) → A
+  arrives_not : {A : Type 0} (i : ℕ) → ◌≡◌ {A = Option Finish} (Some (Arrived i)) (Some Crowded) → A
   arrives_not i e = let z : ◌≡◌ {A = ℕ} 0 1 = cc in absurd (omega arith)
 
-  fills_not : {A : Type 0} → ◌≡◌ {A = Outcome} (Ends Filled) (Ends Crowded) → A
+  fills_not : {A : Type 0} → ◌≡◌ {A = Option Finish} (Some Filled) (Some Crowded) → A
   fills_not e = let z : ◌≡◌ {A = ℕ} 0 1 = cc in absurd (omega arith)
 
-  pub empties_not : {A : Type 0} → ◌≡◌ {A = Outcome} (Ends Emptied) (Ends Crowded) → A
+  pub empties_not : {A : Type 0} → ◌≡◌ {A = Option Finish} (Some Emptied) (Some Crowded) → A
   empties_not e = let z : ◌≡◌ {A = ℕ} 0 1 = cc in absurd (omega arith)
 
-  pub pursued_not : (s : State) (i : ℕ) → (pursued f t s i).outcome ≡ Ends Crowded → ⊥
+  pub pursued_not : (s : State) (i : ℕ) → (pursued f t s i).outcome ≡ Some Crowded → ⊥
   unfolding pursued
   pursued_not s i = go (is_in_goal t.trip.to (node_at s.work i)) m.full
     where
       m : Making
       m = made_all f t s (origin_at s.work i) (steps_from f t.trip.to (node_at s.work i))
 
-      go : (b c : Bool) → (cond b (stepping s (Ends (Arrived i))) (cond c (stepping m.state (Ends Filled)) (stepping m.state Goes))).outcome
-          ≡ Ends Crowded → ⊥
+      go : (b c : Bool) → (cond b (stepping s (Some (Arrived i))) (cond c (stepping m.state (Some Filled)) (stepping m.state None))).outcome
+          ≡ Some Crowded → ⊥
       go true c e = arrives_not i e
       go false true e = fills_not e
       go false false e = goes_not e

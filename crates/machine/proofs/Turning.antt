@@ -8,6 +8,8 @@ use mathlib.Core.List.{List}
 use borrow.Author.Tests.{ltb-false}
 use lib.Dec.{eqb, ltb}
 use lib.Ieee.{Float, lt}
+use Rattle.std.specs.Prelude.{Option, Some, None}
+use Rattle.machine.specs.declared.Finish.{Finish}
 use Rattle.float.proofs.Tests.{untrue}
 use Rattle.stored.specs.Stored.{Floor, floor_in}
 use Rattle.edges.specs.Ground.{Ground}
@@ -22,8 +24,6 @@ use Rattle.seen.proofs.Remembering.{node_key, records_laid, kept_remembered}
 use Rattle.machine.specs.declared.Task.{Task}
 use Rattle.machine.specs.declared.Stall.{Stall}
 use Rattle.machine.specs.declared.Finish.TheVariants.{Emptied, Stopped}
-use Rattle.machine.specs.declared.Outcome.{Outcome}
-use Rattle.machine.specs.declared.Outcome.TheVariants.{Goes, Ends}
 use Rattle.machine.specs.Search.{State, Searching, patience, noticed, table_after, watched}
 use Rattle.machine.specs.Search as search
 use Rattle.machine.specs.Sound.{Sound, Numbered, Watches}
@@ -115,7 +115,7 @@ module _ (plan vs ps : List ℕ) (t : Task) (seed : Node) (g : Ground plan vs ps
     unfolding search.visited
     sound_visited = go (search.is_beaten x.state node)
       where
-        go : (b : Bool) → Turns (cond b (search.turning x Goes) (search.met f t x i told.entry told.table))
+        go : (b : Bool) → Turns (cond b (search.turning x None) (search.met f t x i told.entry told.table))
         go true = record { sound = h; arrives = tt }
         go false = turns_met x i told.entry told.table h l
 
@@ -123,7 +123,7 @@ module _ (plan vs ps : List ℕ) (t : Task) (seed : Node) (g : Ground plan vs ps
     unfolding search.visited
     numbered_visited m = go (search.is_beaten x.state node)
       where
-        go : (b : Bool) → Numbered (cond b (search.turning x Goes) (search.met f t x i told.entry told.table)).search.state
+        go : (b : Bool) → Numbered (cond b (search.turning x None) (search.met f t x i told.entry told.table)).search.state
         go true = m
         go false = numbered_met x i told.entry told.table h l m
 
@@ -131,7 +131,7 @@ module _ (plan vs ps : List ℕ) (t : Task) (seed : Node) (g : Ground plan vs ps
     unfolding search.visited
     watches_visited w = go (search.is_beaten x.state node)
       where
-        go : (b : Bool) → Watches (cond b (search.turning x Goes) (search.met f t x i told.entry told.table)).search
+        go : (b : Bool) → Watches (cond b (search.turning x None) (search.met f t x i told.entry told.table)).search
         go true = w
         go false =
             watches_met x i told.entry told.table w
@@ -165,7 +165,7 @@ module _ (plan vs ps : List ℕ) (t : Task) (seed : Node) (g : Ground plan vs ps
     unfolding search.step
     sound_step = go (eqb least none) refl
       where
-        go : (b : Bool) → eqb least none ≡ b → Turns (cond b (search.turning x (Ends Emptied)) (search.visited f t next least))
+        go : (b : Bool) → eqb least none ≡ b → Turns (cond b (search.turning x (Some Emptied)) (search.visited f t next least))
         go true e = record { sound = h; arrives = tt }
         go false e = sound_visited next least (next_sound e) (next_below e)
 
@@ -174,7 +174,7 @@ module _ (plan vs ps : List ℕ) (t : Task) (seed : Node) (g : Ground plan vs ps
     numbered_step m = go (eqb least none) refl
       where
         go : (b : Bool) → eqb least none ≡ b
-            → Numbered (cond b (search.turning x (Ends Emptied)) (search.visited f t next least)).search.state
+            → Numbered (cond b (search.turning x (Some Emptied)) (search.visited f t next least)).search.state
         go true e = m
         go false e = numbered_visited next least (next_sound e) (next_below e) (next_numbered m)
 
@@ -182,7 +182,7 @@ module _ (plan vs ps : List ℕ) (t : Task) (seed : Node) (g : Ground plan vs ps
     unfolding search.step
     watches_step w = go (eqb least none) refl
       where
-        go : (b : Bool) → eqb least none ≡ b → Watches (cond b (search.turning x (Ends Emptied)) (search.visited f t next least)).search
+        go : (b : Bool) → eqb least none ≡ b → Watches (cond b (search.turning x (Some Emptied)) (search.visited f t next least)).search
         go true e = w
         go false e =
             watches_visited next least (next_sound e) (next_below e) (watches_watched x without (f_at x.state.work least) w)
@@ -192,7 +192,7 @@ module _ (plan vs ps : List ℕ) (t : Task) (seed : Node) (g : Ground plan vs ps
   -- a search that has ended
   pub record Finishes (e : search.Close) : Type 0 where
     pub sound : Sound plan vs ps t seed e.search.state
-    pub arrives : Arrives plan vs ps t seed g e.search.state (Ends e.finish)
+    pub arrives : Arrives plan vs ps t seed g e.search.state (Some e.finish)
 
   pub sound_run : (budget : ℕ) (x : Searching) → Sound plan vs ps t seed x.state → Finishes (search.run f t budget x)
   unfolding search.run
@@ -206,8 +206,8 @@ module _ (plan vs ps : List ℕ) (t : Task) (seed : Node) (g : Ground plan vs ps
       after : Searching
       after = (search.step f t x).search
 
-      go : (o : Outcome) → Arrives plan vs ps t seed g after.state o → Sound plan vs ps t seed after.state
+      go : (o : Option Finish) → Arrives plan vs ps t seed g after.state o → Sound plan vs ps t seed after.state
           → ((u : Searching) → Sound plan vs ps t seed u.state → Finishes (search.run f t budget u))
           → Finishes (search.onwards f t after o (search.run f t budget))
-      go Goes a h next = next after h
-      go (Ends finish) a h next = record { sound = h; arrives = a }
+      go None a h next = next after h
+      go (Some finish) a h next = record { sound = h; arrives = a }

@@ -1,12 +1,11 @@
 -- Document 02, M-130: "Refusals: 14, a new entry needed and the table full, after 12 in a step's order". When a search ends so, in these words.
 -- proofs/Exact has that it ends so exactly then. Definitions only. Assumes nothing.
-use Rattle.std.specs.Prelude.{ℕ, zero, suc, ◌≡◌, true, false, ◌⊎◌, eqb}
+use Rattle.std.specs.Prelude.{ℕ, zero, suc, ◌≡◌, true, false, ◌⊎◌, eqb, None}
 use Rattle.stored.specs.Stored.{Floor}
 use Rattle.queue.specs.Queue.{none}
 use Rattle.places.specs.Layout.{node_at, least_in, f_at}
 use Rattle.seen.specs.Table.{key_of, is_seen, is_full}
 use Rattle.machine.specs.declared.Task.{Task}
-use Rattle.machine.specs.declared.Outcome.TheVariants.{Goes}
 use Rattle.machine.specs.Search.{Searching, is_beaten, popped, watched, step}
 
 module _ (f : Floor) (t : Task) where
@@ -30,4 +29,4 @@ module _ (f : Floor) (t : Task) where
   -- one of the next so many steps is such a one, and the search goes on up to it
   abbrev pub CrowdsWithin : ℕ → Searching → Type 0
   CrowdsWithin zero x = ⊥
-  CrowdsWithin (suc budget) x = Crowds x ⊎ (((step f t x).outcome ≡ Goes) × CrowdsWithin budget (step f t x).search)
+  CrowdsWithin (suc budget) x = Crowds x ⊎ (((step f t x).outcome ≡ None) × CrowdsWithin budget (step f t x).search)

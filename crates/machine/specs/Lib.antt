@@ -3,3 +3,4 @@ pub mod Search
 pub mod Sound
 pub mod Before
 pub mod Crowded
+pub mod Buffers

@@ -1,7 +1,7 @@
 -- Document 01, "The search", with document 02's M-130: a machine over the lent buffers, three counters and what is known of a stall. Where a thing lies in the
 -- buffers is the business of places/specs/Layout, where in the table of seen/specs/Table. specs/Before has the machine without M-130. Definitions only. Assumes
 -- nothing.
-use Rattle.std.specs.Prelude.{ℕ, zero, suc, ◌+◌, Bool, true, false, ◌||◌, cond, List, [], ◌∷◌, leb, ltb, eqb, Float}
+use Rattle.std.specs.Prelude.{ℕ, zero, suc, ◌+◌, Bool, true, false, ◌||◌, cond, List, [], ◌∷◌, leb, ltb, eqb, Float, Option, Some, None}
 use Rattle.std.specs.Float.{binary32, inf}
 use Rattle.std.specs.Float.Ieee.{add, lt, is_nan}
 use Rattle.point.specs.declared.Point.{Point}
@@ -11,8 +11,6 @@ use Rattle.stored.specs.Stored.{Floor}
 use Rattle.route.specs.declared.Step.{Step}
 use Rattle.route.specs.Step.{kind_number}
 use Rattle.steps.specs.declared.Node.{Node}
-use Rattle.steps.specs.declared.Permitted.{Permitted}
-use Rattle.steps.specs.declared.Permitted.TheVariants.{Yes, No}
 use Rattle.steps.specs.Steps.{steps_from, seed_node, enter}
 use Rattle.steps.specs.World.{is_in_goal}
 use Rattle.queue.specs.Queue.{none}
@@ -21,8 +19,6 @@ use Rattle.machine.specs.declared.Counts.{Counts}
 use Rattle.machine.specs.declared.Stall.{Stall}
 use Rattle.machine.specs.declared.Finish.{Finish}
 use Rattle.machine.specs.declared.Finish.TheVariants.{Arrived, Emptied, Filled, Stopped, Crowded}
-use Rattle.machine.specs.declared.Outcome.{Outcome}
-use Rattle.machine.specs.declared.Outcome.TheVariants.{Goes, Ends}
 use Rattle.machine.specs.declared.Origin.{Origin}
 use Rattle.places.specs.Layout.{seed_kind, Work, node_at, depth_at, number_at, put_node, record_distance, record_for, put_record, put_distance, least_in, put_queued}
 use Rattle.places.specs.Layout.{emptied, f_at}
@@ -51,9 +47,9 @@ making s full = record { state = s; full = full }
 -- after a node was looked at, and what came of it
 pub record Stepping : Type 0 where
   pub state : State
-  pub outcome : Outcome
+  pub outcome : Option Finish
 
-abbrev pub stepping : State → Outcome → Stepping
+abbrev pub stepping : State → Option Finish → Stepping
 stepping s outcome = record { state = s; outcome = outcome }
 
 -- where it ended, and how
@@ -76,9 +72,9 @@ searching s stall table = record { state = s; stall = stall; table = table }
 -- after a step
 pub record Turn : Type 0 where
   pub search : Searching
-  pub outcome : Outcome
+  pub outcome : Option Finish
 
-abbrev pub turning : Searching → Outcome → Turn
+abbrev pub turning : Searching → Option Finish → Turn
 turning x outcome = record { search = x; outcome = outcome }
 
 -- at the end
@@ -167,9 +163,9 @@ module _ (vertices : List Point) (t : Task) where
 
 module _ (f : Floor) (t : Task) where
   -- the node of a step, if there is one
-  abbrev pub made_if : State → Origin → Permitted → Making
-  made_if s from (Yes step) = made f.vertices t s from step
-  made_if s from No = making s false
+  abbrev pub made_if : State → Origin → Option Step → Making
+  made_if s from (Some step) = made f.vertices t s from step
+  made_if s from None = making s false
 
   -- one after the other, until one finds no place
   unfoldable pub made_all : State → Origin → List Step → Making
@@ -181,13 +177,13 @@ module _ (f : Floor) (t : Task) where
   -- ---- a node that is looked at
 
   abbrev pub after_making : Making → Stepping
-  after_making m = cond m.full (stepping m.state (Ends Filled)) (stepping m.state Goes)
+  after_making m = cond m.full (stepping m.state (Some Filled)) (stepping m.state None)
 
   -- "In the goal polygon: found. Else make its steps."
   unfoldable pub pursued : State → ℕ → Stepping
   pursued s i =
       let node = node_at s.work i in
-      cond (is_in_goal t.trip.to node) (stepping s (Ends (Arrived i)))
+      cond (is_in_goal t.trip.to node) (stepping s (Some (Arrived i)))
       (after_making (made_all s (origin_at s.work i) (steps_from f t.trip.to node)))
 
   -- "pop the node of least f = distance + heuristic, equal f by lower place (ours, listed); count one": its place is taken out of the queue
@@ -243,27 +239,27 @@ module _ (f : Floor) (t : Task) where
   -- "a popped node whose ten words have been seen is dropped"; "14, a new entry needed and the table full"
   abbrev pub met : Searching → ℕ → Entry → List ℕ → Turn
   met x i New table = let after = pursued f t x.state i in turning (searching after.state x.stall table) after.outcome
-  met x i Seen table = turning (searching x.state x.stall table) Goes
-  met x i NoRoom table = turning (searching x.state x.stall table) (Ends Crowded)
+  met x i Seen table = turning (searching x.state x.stall table) None
+  met x i NoRoom table = turning (searching x.state x.stall table) (Some Crowded)
 
   -- "Dropped if its root has a strictly smaller distance."; "While recording, after the root test and before the goal test"
   unfoldable pub visited : Searching → ℕ → Turn
   visited x i =
       let node = node_at x.state.work i in
       let r = remembered x.stall.recording x.table (key_of node) in
-      cond (is_beaten x.state node) (turning x Goes) (met x i r.entry r.table)
+      cond (is_beaten x.state node) (turning x None) (met x i r.entry r.table)
 
   -- "A step: empty queue is 1; .. else pop"
   unfoldable pub step : Searching → Turn
   step x =
       let i = least_in t.places x.state.work in
-      cond (eqb i none) (turning x (Ends Emptied)) (visited (watched x (popped f t x.state i) (f_at x.state.work i)) i)
+      cond (eqb i none) (turning x (Some Emptied)) (visited (watched x (popped f t x.state i) (f_at x.state.work i)) i)
 
   -- ---- a run
 
-  abbrev pub onwards : Searching → Outcome → (Searching → Close) → Close
-  onwards x Goes next = next x
-  onwards x (Ends finish) next = closing x finish
+  abbrev pub onwards : Searching → Option Finish → (Searching → Close) → Close
+  onwards x None next = next x
+  onwards x (Some finish) next = closing x finish
 
   -- steps until the search ends: "empty queue is 1; budget spent is 12"
   unfoldable pub run : ℕ → Searching → Close

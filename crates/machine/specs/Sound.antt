@@ -1,7 +1,7 @@
 -- What holds of every state that a search comes through: each place below `taken` holds the seed or a node that a permitted step led to from a lower place, and
 -- the queue's words are the tree of some of these places; and each place keeps the number of its root's record. Below the door the functions ask for it.
 -- Definitions only. Assumes nothing.
-use Rattle.std.specs.Prelude.{ℕ, ◌+◌, ◌≤◌, ◌<◌, ◌≡◌, Bool, true, false, not, List, T, eqb, length, Float}
+use Rattle.std.specs.Prelude.{ℕ, ◌+◌, ◌≤◌, ◌<◌, ◌≡◌, Bool, true, false, not, List, T, eqb, Float}
 use Rattle.std.specs.Float.{nan, inf, fin}
 use Rattle.point.specs.declared.Point.{Point}
 use Rattle.point.specs.Point.{same_of}

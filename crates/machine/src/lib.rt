@@ -1,7 +1,10 @@
 #![tactic(auto)]
 // What a search is asked, what it counts, and how its steps and it itself end. All by value.
 
+pub use buffers::Buffers;
 use steps::{Node, Trip};
+
+mod buffers;
 
 // What is asked, and how many places there are for nodes.
 #[derive(Clone, Copy)]
@@ -57,18 +60,11 @@ pub enum Finish {
     Crowded,
 }
 
-// What comes of a step.
-#[derive(Clone, Copy)]
-pub enum Outcome {
-    Goes,
-    Ends(Finish),
-}
-
-// The counters after a step, and what came of it.
+// The counters after a step, and how the search ends, if it does.
 #[derive(Clone, Copy)]
 pub struct Stepped {
     pub counts: Counts,
-    pub outcome: Outcome,
+    pub outcome: Option<Finish>,
 }
 
 // The counters after the last step, and how the search ended.

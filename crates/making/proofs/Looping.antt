@@ -6,7 +6,7 @@ use mathlib.Core.Bool.{Bool, true, false, cond, not}
 use mathlib.Core.List.{List, [], ◌++◌}
 use borrow.Author.Tests.{not-true, not-false}
 use lib.Dec.{eqb}
-use lib.ListN.{length}
+use Rattle.std.specs.Prelude.{Option, Some, None}
 use Rattle.cut.specs.declared.SuccessorType.{SuccessorType}
 use Rattle.walk.specs.declared.Walked.{Walked}
 use Rattle.walk.specs.declared.round.Round.{Round}
@@ -16,8 +16,6 @@ use Rattle.walk.specs.Turns.{is_over_of, edge_number_of, next_of}
 use Rattle.stored.specs.Stored.{Floor, floor_in, record_in}
 use Rattle.edges.specs.Ground.{Ground}
 use Rattle.route.specs.declared.Step.{Step}
-use Rattle.steps.specs.declared.Permitted.{Permitted}
-use Rattle.steps.specs.declared.Permitted.TheVariants.{Yes, No}
 use Rattle.steps.specs.Steps.{and_then, step_of, steps_over, steps_from}
 use Rattle.going.specs.Going.{walked_on, begin_round, left_in, Yielded, Goes}
 use Rattle.going.proofs.Rounds.{on_yields, begin_goes, next_goes, edges_left, fewer_left}
@@ -25,19 +23,20 @@ use Rattle.going.proofs.Left.{left_begin, left_over, steps_left_next}
 use Rattle.going.proofs.Parts.{from_part as steps_from_part, from_next, from_none}
 use Rattle.machine.specs.declared.Task.{Task}
 use Rattle.machine.specs.declared.Origin.{Origin}
+use Rattle.machine.specs.declared.buffers.Buffers.{Buffers}
+use Rattle.machine.specs.Buffers.{SameBuffers}
 use Rattle.machine.specs.Search.{State, Making, making, made_if, made_all}
 use Rattle.machine.specs.Sound.{Fit, OnRecord, Leaves}
 use Rattle.machine.proofs.Numbers.{on_made_if}
 use Rattle.machine.proofs.Fitting.{fit_made}
 use Rattle.making.proofs.Parts.{unless_full, made_alone, made_both, each_keeps}
 
--- ---- what is left of a list
+-- ---- the lent slices
 
--- two states whose buffers are as long as each other's
-pub record AsLong (new old : State) : Type 0 where
-  pub floats_long : length new.work.floats ≡ length old.work.floats
-  pub words_long : length new.work.words ≡ length old.work.words
-  pub queue_long : length new.work.queue ≡ length old.work.queue
+pub still_same : (a b c : Buffers) → SameBuffers a b → SameBuffers b c → SameBuffers a c
+still_same a b c one more = (more.0 ∙ one.0, more.1 ∙ one.1, more.2 ∙ one.2)
+
+-- ---- what is left of a list
 
 -- where steps are made from, in a later state
 pub leaves_on : {plan vs ps : List ℕ} {was at : State} {o : Origin} → Leaves plan vs ps was o → OnRecord at o.node.root o.number
@@ -53,12 +52,11 @@ leaves_on h r =
 pub record Yet (f : Floor) (t : Task) (o : Origin) (was at : State) (all rest : List Step) : Type 0 where
   pub fit : Fit t at
   pub numbered : OnRecord at o.node.root o.number
-  pub long : AsLong at was
   pub left : made_all f t was o all ≡ made_all f t at o rest
 
 module _ (f : Floor) (t : Task) (o : Origin) (was : State) (all : List Step) where
   pub yet_all : Fit t was → OnRecord was o.node.root o.number → Yet f t o was was all all
-  yet_all fit numbered = record { fit = fit; numbered = numbered; long = record { floats_long = refl; words_long = refl; queue_long = refl }; left = refl }
+  yet_all fit numbered = record { fit = fit; numbered = numbered; left = refl }
 
   module _ (at : State) where
     pub yet_same : {rest other : List Step} → rest ≡ other → Yet f t o was at all rest → Yet f t o was at all other
@@ -75,18 +73,13 @@ module _ (f : Floor) (t : Task) (o : Origin) (was : State) (all : List Step) whe
       pub yet_full : m.full ≡ true → m ≡ made_all f t was o all
       yet_full e = sym (turned ∙ ap (λ (b : Bool). cond b m (made_all f t m.state o rest)) e)
 
-      pub yet_rest : m.full ≡ false → AsLong m.state at → Yet f t o was m.state all rest
-      yet_rest e long = record {
+      pub yet_rest : m.full ≡ false → Yet f t o was m.state all rest
+      yet_rest e = record {
         fit = subst (λ (x : Making). Fit t x.state) (sym made) (each_keeps f t o (Fit t) (λ s step. fit_made t f s o step) some at y.fit);
         numbered =
             subst (λ (x : Making). OnRecord x.state o.node.root o.number) (sym made)
-            (each_keeps f t o (λ s. OnRecord s o.node.root o.number) (λ s step. on_made_if o.node.root o.number f t s o (Yes step)) some at
+            (each_keeps f t o (λ s. OnRecord s o.node.root o.number) (λ s step. on_made_if o.node.root o.number f t s o (Some step)) some at
             y.numbered);
-        long = record {
-          floats_long = long.floats_long ∙ y.long.floats_long;
-          words_long = long.words_long ∙ y.long.words_long;
-          queue_long = long.queue_long ∙ y.long.queue_long;
-        };
         left = turned ∙ ap (λ (b : Bool). cond b m (made_all f t m.state o rest)) e;
       }
 
@@ -115,7 +108,7 @@ parts_begin {f} {t} {o} {was} {edge} {walked} round is fit numbered = record {
 }
 
 module _ {f : Floor} {t : Task} {o : Origin} {was at : State} {edge : ℕ} {walked : Walked} {k : ℕ} (h : Parts f t o was at edge walked k) where
-  abbrev over : Permitted
+  abbrev over : Option Step
   over = step_of f o.node (record { edge = edge; part = part_at walked.parts k })
 
   -- by what the edge and what it yields are
@@ -129,9 +122,9 @@ module _ {f : Floor} {t : Task} {o : Origin} {was at : State} {edge : ℕ} {walk
       let all = on_edge f o edge walked in
       yet_none f t o was all at (yet_same f t o was all at (from_none f o.node edge walked h.yielded k l) h.yet) ∙ on_edge_as e y
 
-  in_front : (p : Permitted) (rest : List Step) → and_then p rest ≡ and_then p [] ++ rest
-  in_front (Yes step) rest = refl
-  in_front No rest = refl
+  in_front : (p : Option Step) (rest : List Step) → and_then p rest ≡ and_then p [] ++ rest
+  in_front (Some step) rest = refl
+  in_front None rest = refl
 
   module _ (l : k < walked.count) {m : Making} (made : m ≡ made_if f t at o over) where
     abbrev one : List Step
@@ -149,10 +142,10 @@ module _ {f : Floor} {t : Task} {o : Origin} {was at : State} {edge : ℕ} {walk
     pub parts_full : m.full ≡ true → {is : ℕ} → edge ≡ is → {w : Walked} → walked ≡ w → m ≡ made_all f t was o (on_edge f o is w)
     parts_full full e y = yet_full f t o was (on_edge f o edge walked) at one (from_part f o edge walked (k + 1)) front m made_one full ∙ on_edge_as e y
 
-    pub parts_next : m.full ≡ false → AsLong m.state at → Parts f t o was m.state edge walked (k + 1)
-    parts_next e long = record {
+    pub parts_next : m.full ≡ false → Parts f t o was m.state edge walked (k + 1)
+    parts_next e = record {
       yielded = h.yielded;
-      yet = yet_rest f t o was (on_edge f o edge walked) at one (from_part f o edge walked (k + 1)) front m made_one e long;
+      yet = yet_rest f t o was (on_edge f o edge walked) at one (from_part f o edge walked (k + 1)) front m made_one e;
     }
 
 -- the round behind it
@@ -222,15 +215,15 @@ module _ {plan vs ps : List ℕ} {t : Task} {o : Origin} {was at : State} {round
       pub loops_full : m.full ≡ true → m ≡ made_all f t was o all
       loops_full e = yet_full f t o was all at this rest edge_first m made e
 
-      pub loops_next : m.full ≡ false → AsLong m.state at → {next : Round} → next ≡ next_of round walked.kind
+      pub loops_next : m.full ≡ false → {next : Round} → next ≡ next_of round walked.kind
           → Loops plan vs ps t o was m.state next
-      loops_next e long {next} n =
+      loops_next e {next} n =
           subst (Loops plan vs ps t o was m.state) (sym n)
           (record {
             ground = l.ground;
             leaves = l.leaves;
             goes = next_goes plan vs ps o.node l.leaves.stands round l.goes on walked.kind;
-            yet = yet_rest f t o was all at this rest edge_first m made e long;
+            yet = yet_rest f t o was all at this rest edge_first m made e;
           })
 
     pub loops_less : (kind : SuccessorType) {next : Round} → next ≡ next_of round kind → edges_left next < edges_left round

@@ -2,10 +2,9 @@
 use mathlib.Core.Path.{◌≡◌, refl, sym, ap, ◌∙◌}
 use mathlib.Core.Bool.{Bool, true, false, cond}
 use mathlib.Core.List.{List, [], ◌∷◌, ◌++◌}
+use Rattle.std.specs.Prelude.{Option, Some, None}
 use Rattle.stored.specs.Stored.{Floor}
 use Rattle.route.specs.declared.Step.{Step}
-use Rattle.steps.specs.declared.Permitted.{Permitted}
-use Rattle.steps.specs.declared.Permitted.TheVariants.{Yes, No}
 use Rattle.steps.specs.Steps.{and_then}
 use Rattle.machine.specs.declared.Task.{Task}
 use Rattle.machine.specs.declared.Origin.{Origin}
@@ -18,11 +17,11 @@ unless_full m more = cond m.full m more
 module _ (f : Floor) (t : Task) (o : Origin) where
   -- ---- a step that may not be permitted
 
-  pub made_by_step : (s : State) {step : Step} {m : Making} → m ≡ made f.vertices t s o step → {p q : Permitted} → p ≡ Yes step → p ≡ q
+  pub made_by_step : (s : State) {step : Step} {m : Making} → m ≡ made f.vertices t s o step → {p q : Option Step} → p ≡ Some step → p ≡ q
       → m ≡ made_if f t s o q
   made_by_step s e {p} {q} y x = e ∙ ap (made_if f t s o) (sym y ∙ x)
 
-  pub made_by_none : (s : State) {p q : Permitted} → p ≡ No → p ≡ q → making s false ≡ made_if f t s o q
+  pub made_by_none : (s : State) {p q : Option Step} → p ≡ None → p ≡ q → making s false ≡ made_if f t s o q
   made_by_none s {p} {q} n x = ap (made_if f t s o) (sym n ∙ x)
 
   alone : (m : Making) → m ≡ unless_full m (making m.state false)
@@ -33,10 +32,10 @@ module _ (f : Floor) (t : Task) (o : Origin) where
       go false = refl
 
   -- it is a list of one, or of none
-  pub made_alone : (s : State) (p : Permitted) → made_if f t s o p ≡ made_all f t s o (and_then p [])
+  pub made_alone : (s : State) (p : Option Step) → made_if f t s o p ≡ made_all f t s o (and_then p [])
   unfolding made_all
-  made_alone s (Yes step) = alone (made f.vertices t s o step)
-  made_alone s No = refl
+  made_alone s (Some step) = alone (made f.vertices t s o step)
+  made_alone s None = refl
 
   -- ---- several
 

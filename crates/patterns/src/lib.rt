@@ -21,8 +21,5 @@ pub fn segment(ax: u32, ay: u32, bx: u32, by: u32) -> Segment
 pub fn truth_number(truth: bool) -> u32
     ensures { result ≡ truth_number truth }
 {
-    if truth {
-        return 1;
-    }
-    0
+    u32::from(truth)
 }

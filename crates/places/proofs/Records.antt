@@ -1,17 +1,20 @@
 -- Distances on record: where the record of a root stands, and what leaves it there. Rests on specs/Layout. Assumes nothing.
 use Prim.Native.Nat.{ℕ, ◌+◌, ◌*◌, ◌≤◌, ◌<◌}
 use native.Mathlib.Omega.{arith}
-use mathlib.Core.Path.{◌≡◌, ap, ◌∙◌}
-use mathlib.Core.Bool.{true, not}
-use lib.Dec.{T}
+use mathlib.Core.Path.{◌≡◌, refl, ap, ◌∙◌}
+use mathlib.Core.Bool.{Bool, true, false, not, cond}
+use borrow.Author.Tests.{ltb-false, lt-ltb, le-ltb}
+use lib.Dec.{T, ltb}
 use mathlib.Core.List.{List, [], ◌∷◌}
 use mathlib.Core.Logic.{inl, inr}
 use lib.Ieee.{Float, nan, eq, is_nan}
 use lib.ListN.{length}
 use lib.Seq.{get_or-set_other}
+use Rattle.std.specs.Prelude.{Option, Some, None, unwrap_or}
 use Rattle.float.proofs.Tests.{and_true}
 use Rattle.float.proofs.Nan.{eq_no_nan}
 use Rattle.float.proofs.Order.{eq_reflexive, eq_respects_right}
+use Rattle.counts.specs.Counts.{below}
 use Rattle.counts.proofs.Laws.{first_is, first_le, first_before, first_at, first_same}
 use Rattle.point.specs.declared.Point.{Point}
 use Rattle.point.specs.Point.{point_of, same_of}
@@ -83,6 +86,31 @@ module _ (floats : List Float) where
 pub record_for_le : (fs : List Float) (records : ℕ) (root : Point) → record_for fs records root ≤ records
 unfolding record_for
 record_for_le fs records root = first_le records (λ r. same_of (record_root fs r) root)
+
+-- what a scan over the records answers
+module _ (fs : List Float) (records : ℕ) (root : Point) where
+  pub found_here : (r : ℕ) → r < records → ((k : ℕ) → k < r → same_of (record_root fs k) root ≡ false) → same_of (record_root fs r) root ≡ true
+      → Some r ≡ below records (record_for fs records root)
+  unfolding record_for
+  found_here r l before here = rw (first_is records (λ k. same_of (record_root fs k) root) r (omega arith) before (λ _. here), lt-ltb r records l)
+
+  pub found_nowhere : ((k : ℕ) → k < records → same_of (record_root fs k) root ≡ false) → None ≡ below records (record_for fs records root)
+  unfolding record_for
+  found_nowhere before =
+      rw (first_is records (λ k. same_of (record_root fs k) root) records (omega arith) before (λ l. absurd (omega arith)), le-ltb records records (omega arith))
+
+-- a number that is found below n, and n where none is
+below_or : (n k : ℕ) → k ≤ n → unwrap_or (below n k) n ≡ k
+below_or n k l = go (ltb k n) refl
+  where
+    go : (b : Bool) → ltb k n ≡ b → unwrap_or (cond b (Some k) None) n ≡ k
+    go true e = refl
+    go false e = omega (arith, ltb-false k n e)
+
+-- the number of the record that a scan finds, and where it finds none that of the next
+pub number_found : (fs : List Float) (records : ℕ) (root : Point) {found : Option ℕ} → found ≡ below records (record_for fs records root)
+    → {number : ℕ} → number ≡ unwrap_or found records → number ≡ record_for fs records root
+number_found fs records root e n = n ∙ rw e (below_or records (record_for fs records root) (record_for_le fs records root))
 
 -- roots that are the same have the same record
 pub record_for_equal : (fs : List Float) (records : ℕ) (a b : Point) → same_of a b ≡ true → record_for fs records a ≡ record_for fs records b

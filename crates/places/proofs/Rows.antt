@@ -12,16 +12,15 @@ use lib.ListN.{length, get_or, set, length-set}
 use lib.Seq.{get_or-set_same, get_or-set_other}
 use Rattle.point.specs.declared.Point.{Point}
 use Rattle.point.specs.Point.{point_of}
-use Rattle.cut.specs.declared.SuccessorType.{SuccessorType}
-use Rattle.cut.specs.declared.SuccessorType.TheVariants.{LeftNonObservable, Observable, RightNonObservable}
 use Rattle.route.specs.declared.Step.{Step}
 use Rattle.route.specs.Step.{kind_number}
+use Rattle.route.proofs.Bytes.{kind_back}
 use Rattle.steps.specs.declared.Node.{Node}
 use Rattle.queue.specs.Words.{column}
 use Rattle.places.specs.Layout.{floats_per_place, words_per_place, right_xcell, right_ycell, left_xcell, left_ycell, root_xcell, root_ycell, length_cell, f_cell}
 use Rattle.places.specs.Layout.{record_xcell, distance_cell, kind_cell, polygon_cell, first_cell, second_cell, parent_cell, points_cell, depth_cell, number_cell}
 use Rattle.places.specs.Layout.{seed_kind}
-use Rattle.places.specs.Layout.{Work, Room, places_in, puts, float_at, word_at, interval_in, left_in, node_in, kind_of, step_in, parent_in, depth_in, number_in}
+use Rattle.places.specs.Layout.{Work, Room, places_in, puts, float_at, word_at, interval_in, left_in, node_in, step_in, parent_in, depth_in, number_in}
 use Rattle.places.specs.Layout.{put_floats, put_words, record_put, distance_put}
 
 -- ---- cells
@@ -65,13 +64,6 @@ which i j = go (dec_lt j i) (dec_lt i j)
     go (yes l) d = inl l
     go (no l) (yes d) = inr (inr d)
     go (no l) (no d) = inr (inl (omega arith))
-
--- a kind's number tells the kind
-pub kind_back : (kind : SuccessorType) → kind_of (kind_number kind) ≡ kind
-unfolding kind_of kind_number
-kind_back Observable = refl
-kind_back RightNonObservable = refl
-kind_back LeftNonObservable = refl
 
 -- ---- the same row in two buffers
 

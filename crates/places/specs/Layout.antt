@@ -1,14 +1,13 @@
 -- Where things lie in the lent buffers: the one file that knows. A place is a row of 11 floats, a row of 8 words, and two words of the queue. Beside a node, a
 -- row of floats holds one record of a root and its distance. Definitions only. Assumes nothing.
-use Rattle.std.specs.Prelude.{ℕ, suc, ◌+◌, ◌*◌, ◌/◌, ◌≤◌, min, Bool, cond, List, [], ◌∷◌, eqb, length, get_or, set, Float}
+use Rattle.std.specs.Prelude.{ℕ, suc, ◌+◌, ◌*◌, ◌/◌, ◌≤◌, min, Bool, List, [], ◌∷◌, eqb, length, get_or, set, Float}
 use Rattle.std.specs.Float.{nan}
 use Rattle.counts.specs.Counts.{first}
 use Rattle.point.specs.declared.Point.{Point}
 use Rattle.point.specs.declared.Segment.{Segment}
 use Rattle.point.specs.Point.{point_of, same_of}
-use Rattle.cut.specs.declared.SuccessorType.{SuccessorType}
-use Rattle.cut.specs.declared.SuccessorType.TheVariants.{LeftNonObservable, Observable, RightNonObservable}
 use Rattle.route.specs.declared.Step.{Step}
+use Rattle.route.specs.Step.{kind_of}
 use Rattle.steps.specs.declared.Node.{Node}
 use Rattle.queue.specs.Queue.{put, least_of}
 use Rattle.queue.specs.Words.{column, queued_in, cleared, queue_of}
@@ -163,10 +162,6 @@ node_in floats words i = record {
 
 abbrev pub node_at : Work → ℕ → Node
 node_at w i = node_in w.floats w.words i
-
--- a step's kind by its number
-unfoldable pub kind_of : ℕ → SuccessorType
-kind_of number = cond (eqb number 2) Observable (cond (eqb number 3) RightNonObservable LeftNonObservable)
 
 -- the step by which it was entered
 unfoldable pub step_in : List Float → List ℕ → ℕ → Step

@@ -2,14 +2,14 @@
 // Where things lie in the lent buffers. A place is a row of 11 floats and a row of 8 words; beside a node, a row of floats
 // holds one record of a root and its distance. Only these functions know the numbers of the cells.
 
-ghost use Rattle.std.specs.Prelude.{◌≡◌, ◌+◌, ◌*◌, ◌≤◌, ◌<◌, min, length};
+ghost use Rattle.std.specs.Prelude.{◌≡◌, ◌+◌, ◌*◌, ◌≤◌, length};
+ghost use Rattle.counts.specs.Counts.{below};
 ghost use Rattle.queue.specs.Words.{column};
-ghost use Rattle.places.specs.Layout.{f_cell, floats_per_place, words_per_place, work_of, places_in, interval_in, left_in, node_in, kind_of, step_in, parent_in};
+ghost use Rattle.places.specs.Layout.{f_cell, floats_per_place, words_per_place, work_of, places_in, interval_in, left_in, node_in, step_in, parent_in};
 ghost use Rattle.places.specs.Layout.{depth_in, number_in, put_floats, put_words, record_root, record_distance, record_for, record_put, distance_put};
 
-use cut::SuccessorType;
 use point::{Point, Segment};
-use route::Step;
+use route::{Step, kind_of};
 use steps::Node;
 
 // Floats and words in a row.
@@ -29,22 +29,13 @@ pub const SEED: u32 = 1;
 // The most places that are used.
 pub const MOST_PLACES: usize = 4096;
 
-fn lesser(a: usize, b: usize) -> usize
-    ensures { result ≡ min a b }
-{
-    if a <= b {
-        return a;
-    }
-    b
-}
-
 // How many nodes the lent work buffers hold.
 #[tactic(auto, unfolding(crate::specs::Layout::places_in))]
 pub fn places_in(floats: &[f32], words: &[u32], queue: &[u32]) -> usize
     ensures { result ≡ places_in (work_of floats.now words.now queue.now) }
 {
-    let rows = lesser(floats.len() / FLOATS, words.len() / WORDS);
-    lesser(lesser(rows, queue.len() / QUEUE_WORDS), MOST_PLACES)
+    let rows = (floats.len() / FLOATS).min(words.len() / WORDS);
+    rows.min(queue.len() / QUEUE_WORDS).min(MOST_PLACES)
 }
 
 // Stores the floats of the node at place i.
@@ -151,20 +142,6 @@ pub fn node_at(floats: &[f32], words: &[u32], i: usize) -> Node
     }
 }
 
-// A step's kind from its number.
-#[tactic(auto, unfolding(crate::specs::Layout::kind_of))]
-fn kind_of(number: u32) -> SuccessorType
-    ensures { result ≡ kind_of number }
-{
-    if number == 2 {
-        return SuccessorType::Observable;
-    }
-    if number == 3 {
-        return SuccessorType::RightNonObservable;
-    }
-    SuccessorType::LeftNonObservable
-}
-
 // The step by which the node at place i was entered.
 #[tactic(auto, unfolding(crate::specs::Layout::step_in, crate::specs::Layout::word_at))]
 pub fn step_at(floats: &[f32], words: &[u32], i: usize) -> Step
@@ -229,20 +206,17 @@ pub fn record_distance(floats: &[f32], r: usize) -> f32
     floats[r * FLOATS + 10]
 }
 
-// The first of so many records whose root is this one by ==, or their number.
-#[tactic(auto, using(counts::proofs::Laws::first_is), unfolding(crate::specs::Layout::record_for))]
-pub fn record_for(floats: &[f32], records: usize, root: Point) -> usize
+// The first of so many records whose root is this one by ==, if there is one.
+pub fn record_for(floats: &[f32], records: usize, root: Point) -> Option<usize>
     requires { records * floats_per_place ≤ length floats.now }
-    ensures { result ≡ record_for floats.now records root }
+    ensures { result ≡ below records (record_for floats.now records root) }
 {
-    let mut r = 0;
-    while r < records {
-        if record_root(floats, r).same(root) {
-            return r;
+    for r in 0..records {
+        if record_root(floats, r) == root {
+            return Some(r);
         }
-        r += 1;
     }
-    r
+    None
 }
 
 // Makes record r.

@@ -3,6 +3,7 @@
 use Prim.Native.Nat.{ℕ, zero, suc, ◌+◌, ◌*◌, ◌<◌}
 use mathlib.Core.Path.{◌≡◌, refl, ◌∙◌}
 use mathlib.Core.Bool.{Bool, true, false}
+use mathlib.Core.Logic.{◌↔◌}
 use native.Mathlib.Nat.{mul_comm, mul-pos, zero-lt-suc, zero-mul, zero-add}
 use native.Mathlib.Omega.{arith}
 use borrow.Author.Tests.{lt-ltb, le-ltb}
@@ -11,9 +12,10 @@ use lib.IntN.{ℤ, pos, negsuc}
 use lib.Ieee.{Float, Format, nan, inf, fin, binary32, of_bits, mul, neg, lt, le, eq, up, down, unlike}
 use Rattle.point.specs.declared.Point.{Point}
 use Rattle.point.specs.declared.Segment.{Segment}
-use Rattle.point.specs.declared.EdgeSide.TheVariants.{Right}
+use Rattle.point.specs.declared.EdgeSide.{EdgeSide}
+use Rattle.point.specs.declared.EdgeSide.TheVariants.{Left, Right, Edge}
 use Rattle.point.specs.Point.{minus_of, times_of, perp_dot_of}
-use Rattle.point.specs.Sides.{magnitude_of, side_of, between_of}
+use Rattle.point.specs.Sides.{magnitude_of, side_of, same_side_of, between_of}
 
 -- ---- NaN
 
@@ -33,6 +35,21 @@ le_nan (fin s m e) = refl
 pub between_nan : (a b : Float) → between_of nan a b ≡ false
 unfolding between_of
 between_nan a b = rw le_nan
+
+-- ---- sides
+
+-- == on sides holds of each side and itself, and of no two others
+pub same_side_same : (a b : EdgeSide) → same_side_of a b ≡ true ↔ a ≡ b
+unfolding same_side_of
+same_side_same Left Left = (λ e. refl, λ e. refl)
+same_side_same Left Right = (λ e. cc, λ e. cc)
+same_side_same Left Edge = (λ e. cc, λ e. cc)
+same_side_same Right Left = (λ e. cc, λ e. cc)
+same_side_same Right Right = (λ e. refl, λ e. refl)
+same_side_same Right Edge = (λ e. cc, λ e. cc)
+same_side_same Edge Left = (λ e. cc, λ e. cc)
+same_side_same Edge Right = (λ e. cc, λ e. cc)
+same_side_same Edge Edge = (λ e. refl, λ e. refl)
 
 -- ---- magnitude
 

@@ -64,7 +64,7 @@ plus_of p q = record { x = add binary32 p.x q.x; y = add binary32 p.y q.y }
 unfoldable pub times_of : Point → Float → Point
 times_of p by = record { x = mul binary32 p.x by; y = mul binary32 p.y by }
 
--- ==: 0.0 and -0.0 are the same, and a NaN is the same as nothing
+-- Rust's ==, which the derive gives: 0.0 and -0.0 are the same, and a NaN is the same as nothing
 unfoldable pub same_of : Point → Point → Bool
 same_of p q = eq p.x q.x && eq p.y q.y
 

@@ -22,7 +22,7 @@ side_of p line =
     let area = perp_dot_of (minus_of line.1 line.0) (minus_of p line.0) in
     cond (lt (magnitude_of area) epsilon) Edge (cond (lt zero area) Left Right)
 
--- == on sides
+-- Rust's == on sides, which the derive gives (proofs/Laws, same_side_same)
 unfoldable pub same_side_of : EdgeSide → EdgeSide → Bool
 same_side_of Left Left = true
 same_side_of Left Right = false

@@ -3,12 +3,13 @@
 // names: on which side of a line a point is, mirrored across it, on a segment, in its box. Each f32 operation is in document 01's order.
 
 ghost use Rattle.std.specs.Prelude.{◌≡◌};
-ghost use Rattle.point.specs.Point.{point_of, from_bits_of, minus_of, plus_of, times_of, same_of, dot_of, perp_dot_of, length_of, distance_of};
+ghost use Rattle.point.specs.Point.{point_of, from_bits_of, minus_of, plus_of, times_of, dot_of, perp_dot_of, length_of, distance_of};
 ghost use Rattle.point.specs.Point.{distance_squared_of, project_onto_of, ends_at_of};
-ghost use Rattle.point.specs.Sides.{magnitude_of, side_of, same_side_of, mirror_of, on_segment_of, between_of, in_bounding_box_of, min_of, max_of};
+ghost use Rattle.point.specs.Sides.{magnitude_of, side_of, mirror_of, on_segment_of, between_of, in_bounding_box_of, min_of, max_of};
 
-// A point is two f32. It is also the way from one point to another.
-#[derive(Clone, Copy)]
+// A point is two f32. It is also the way from one point to another. Two are == as Rust has it: 0.0 and -0.0 are the same, and a
+// NaN is the same as nothing.
+#[derive(Clone, Copy, PartialEq)]
 pub struct Point {
     pub x: f32,
     pub y: f32,
@@ -19,7 +20,7 @@ pub struct Point {
 pub struct Segment(pub Point, pub Point);
 
 // Where a point is, seen along a line.
-#[derive(Clone, Copy)]
+#[derive(Clone, Copy, PartialEq, Eq)]
 pub enum EdgeSide {
     Left,
     Right,
@@ -89,14 +90,6 @@ impl Point {
             x: self.x * by,
             y: self.y * by,
         }
-    }
-
-    // Rust's == on points: 0.0 and -0.0 are the same, and a NaN is the same as nothing.
-    #[tactic(auto, unfolding(crate::specs::Point::same_of))]
-    pub fn same(self, other: Point) -> bool
-        ensures { result ≡ same_of self other }
-    {
-        self.x == other.x && self.y == other.y
     }
 
     #[tactic(auto, unfolding(crate::specs::Point::dot_of))]
@@ -178,11 +171,11 @@ impl Point {
 
     // Determines if a point lies on a line segment. Being on the line is not enough: the point can be
     // outside the segment but still be on the line.
-    #[tactic(auto, unfolding(crate::specs::Sides::on_segment_of))]
+    #[tactic(auto, unfolding(crate::specs::Sides::on_segment_of, crate::specs::Sides::same_side_of))]
     pub fn on_segment(self, segment: Segment) -> bool
         ensures { result ≡ on_segment_of self segment }
     {
-        self.in_bounding_box(segment) && same_side(self.side(segment), EdgeSide::Edge)
+        self.in_bounding_box(segment) && self.side(segment) == EdgeSide::Edge
     }
 
     // Determines if a point is in a bounding box.
@@ -195,36 +188,12 @@ impl Point {
 }
 
 impl Segment {
-    // Whether a point is one of the two, by Point::same.
-    #[tactic(auto, unfolding(crate::specs::Point::ends_at_of))]
+    // Whether a point is one of the two, by ==.
+    #[tactic(auto, unfolding(crate::specs::Point::ends_at_of, crate::specs::Point::same_of))]
     pub fn ends_at(self, point: Point) -> bool
         ensures { result ≡ ends_at_of self point }
     {
-        point.same(self.0) || point.same(self.1)
-    }
-}
-
-// Rust's == on sides, which the proofs take only as a match.
-#[tactic(auto, unfolding(crate::specs::Sides::same_side_of))]
-pub fn same_side(a: EdgeSide, b: EdgeSide) -> bool
-    ensures { result ≡ same_side_of a b }
-{
-    match a {
-        EdgeSide::Left => match b {
-            EdgeSide::Left => true,
-            EdgeSide::Right => false,
-            EdgeSide::Edge => false,
-        },
-        EdgeSide::Right => match b {
-            EdgeSide::Left => false,
-            EdgeSide::Right => true,
-            EdgeSide::Edge => false,
-        },
-        EdgeSide::Edge => match b {
-            EdgeSide::Left => false,
-            EdgeSide::Right => false,
-            EdgeSide::Edge => true,
-        },
+        point == self.0 || point == self.1
     }
 }
 

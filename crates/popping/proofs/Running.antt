@@ -1,5 +1,5 @@
 -- A run, step by step: what was to be run is what is left to be run. Assumes nothing.
-use Prim.Native.Nat.{ℕ, zero, suc, ◌+◌, ◌-◌, ◌≤◌, ◌<◌, ◌^◌}
+use Prim.Native.Nat.{ℕ, zero, suc, ◌+◌, ◌≤◌, ◌<◌, ◌^◌}
 use native.Mathlib.Omega.{arith}
 use mathlib.Core.Path.{◌≡◌, refl, sym, ap, ◌∙◌, subst}
 use mathlib.Core.Bool.{Bool, true, false}
@@ -8,87 +8,104 @@ use borrow.Author.Tests.{eq-eqb, ne_eqb}
 use lib.Dec.{eqb}
 use lib.Ieee.{Float}
 use lib.ListN.{length}
+use Rattle.std.specs.Prelude.{Option, Some, None, is_some}
 use Rattle.float.proofs.Tests.{untrue}
 use Rattle.stored.specs.Stored.{Floor, floor_in}
 use Rattle.edges.specs.Ground.{Ground}
 use Rattle.steps.specs.declared.Node.{Node}
 use Rattle.steps.specs.Steps.{steps_from, seed_node}
 use Rattle.going.proofs.Stands.{seed_stands}
-use Rattle.queue.specs.Queue.{none, least_of, NoNan, Tree}
+use Rattle.queue.specs.Queue.{none, place_named, least_of, NoNan, Tree}
+use Rattle.queue.proofs.Queued.{named_none, named_some}
 use Rattle.machine.specs.declared.Task.{Task}
 use Rattle.machine.specs.declared.Origin.{Origin}
 use Rattle.machine.specs.declared.Stall.{Stall}
 use Rattle.machine.specs.declared.Finish.{Finish}
 use Rattle.machine.specs.declared.Finish.TheVariants.{Emptied, Filled, Stopped}
-use Rattle.machine.specs.declared.Outcome.{Outcome}
-use Rattle.machine.specs.declared.Outcome.TheVariants.{Goes, Ends}
 use Rattle.places.specs.Layout.{Work, least_in, f_at}
 use Rattle.seen.specs.Kept.{Records}
-use Rattle.machine.specs.Search.{State, state_of, Making, ending, Searching, searching, Turn, turning, closing, Rest, rest_of, rest_in, made_all, planted, begun}
+use Rattle.machine.specs.Search.{State, state_of, Making, ending, Searching, searching, Turn, turning, closing, Rest, rest_of, rest_in}
+use Rattle.machine.specs.Search.{made_all, planted, begun}
 use Rattle.machine.specs.Search.{seed_origin, outset}
 use Rattle.machine.specs.Search.{popped, calm, noticed, table_after, watched, visited, step, onwards, run, searched_from}
 use Rattle.machine.specs.Sound.{Begins, Fit, Sound, OnRecord, Numbered, SoundFrom, Watches, SoundSearch, Leaves}
 use Rattle.machine.proofs.Turning.{table_records, sound_step, numbered_step, watches_step}
 use Rattle.machine.proofs.Begun.{sound_begun, on_first, sound_seeded, numbered_seeded}
-use Rattle.making.proofs.Looping.{AsLong}
 use Rattle.machine.proofs.Counting.{pops_made_all, pops_step}
 use Rattle.popping.proofs.Stepping.{least_is}
+
+none_there : (o : Option ℕ) → is_some o ≡ false → o ≡ None
+none_there None e = refl
+none_there (Some w) e = cc
+
+some_there : (o : Option ℕ) → is_some o ≡ true → (w : ℕ) × (o ≡ Some w)
+some_there None e = cc
+some_there (Some w) e = (w, refl)
 
 pub record Runs (plan vs ps : List ℕ) (t : Task) (budget : ℕ) (was at : Searching) (left : ℕ) : Type 0 where
   pub ground : Ground plan vs ps
   pub sound : SoundSearch plan vs ps t at
-  pub long : AsLong at.state was.state
   pub table_long : length at.table ≡ length was.table
   pub count : at.state.counts.pops + left < 2 ^ 64
   pub rest : run (floor_in plan vs ps) t budget was ≡ run (floor_in plan vs ps) t left at
 
-pub runs_begin : {plan vs ps : List ℕ} {t : Task} {budget : ℕ} {s : State} {stall : Stall} {table : List ℕ} → Ground plan vs ps → SoundFrom plan vs ps t s
-    → s.counts.pops + budget < 2 ^ 64 → stall ≡ calm → Runs plan vs ps t budget (searching s calm table) (searching s stall table) budget
-runs_begin {plan} {vs} {ps} {t} {budget} {s} {stall} {table} g h few e =
-    subst (λ (y : Stall). Runs plan vs ps t budget (searching s calm table) (searching s y table) budget) (sym e) (record {
+pub runs_begin : {plan vs ps : List ℕ} {t : Task} {budget left : ℕ} {s : State} {stall : Stall} {table : List ℕ} → Ground plan vs ps
+    → SoundFrom plan vs ps t s → s.counts.pops + budget < 2 ^ 64 → stall ≡ calm → budget ≡ left
+    → Runs plan vs ps t budget (searching s calm table) (searching s stall table) left
+runs_begin {plan} {vs} {ps} {t} {budget} {left} {s} {stall} {table} g h few e all =
+    subst (λ (y : Stall). Runs plan vs ps t budget (searching s calm table) (searching s y table) left) (sym e) (record {
       ground = g;
       sound = record { from = h; watches = record { patient = λ d. omega arith; records = λ d. untrue d } };
-      long = record { floats_long = refl; words_long = refl; queue_long = refl };
       table_long = refl;
-      count = few;
-      rest = refl;
+      count = omega (arith, few, all);
+      rest = ap (λ (k : ℕ). run (floor_in plan vs ps) t k (searching s calm table)) all;
     })
 
 module _ {plan vs ps : List ℕ} {t : Task} {budget : ℕ} {was at : Searching} {left : ℕ} (r : Runs plan vs ps t budget was at left) where
   abbrev f : Floor
   f = floor_in plan vs ps
 
-  -- the word that the tree gives is the least
-  module _ {w : ℕ}
-      (told : (f : ℕ → Float) (n : ℕ) (q : ℕ → Bool) → 0 < n → n ≤ none → NoNan f n q → Tree f n q at.state.work.queue → w ≡ least_of f n q) where
-    pub runs_least : w ≡ least_in t.places at.state.work
+  -- the place that the tree gives is the least
+  module _ {found : Option ℕ}
+      (told : (f : ℕ → Float) (n : ℕ) (q : ℕ → Bool) → 0 < n → n ≤ none → NoNan f n q → Tree f n q at.state.work.queue
+      → found ≡ place_named (least_of f n q)) where
+    pub runs_least : found ≡ place_named (least_in t.places at.state.work)
     runs_least = least_is r.sound.from told
 
     -- nothing is queued, whether the budget is spent or not
-    pub runs_empty : w ≡ none → rest_of (ending at.state Emptied) at.table ≡ rest_in (run f t budget was)
+    pub runs_empty : found ≡ None → rest_of (ending at.state Emptied) at.table ≡ rest_in (run f t budget was)
     runs_empty e = sym (ap rest_in (r.rest ∙ empty left))
       where
         none_queued : eqb (least_in t.places at.state.work) none ≡ true
-        none_queued = rw (← runs_least) (eq-eqb _ _ e)
+        none_queued = eq-eqb _ _ (named_none _ (sym runs_least ∙ e))
 
         empty : (k : ℕ) → run f t k at ≡ closing at Emptied
         empty zero = unfold run in rw none_queued
         empty (suc k) = unfold run step in rw none_queued
 
-    pub runs_out : left ≤ 0 → (w ≡ none → ⊥) → rest_of (ending at.state Stopped) at.table ≡ rest_in (run f t budget was)
+    pub runs_place : {w : ℕ} → found ≡ Some w → (w ≡ least_in t.places at.state.work) × (w ≡ none → ⊥)
+    runs_place queue = named_some _ _ (sym runs_least ∙ queue)
+
+    pub runs_none : is_some found ≡ false → rest_of (ending at.state Emptied) at.table ≡ rest_in (run f t budget was)
+    runs_none e = runs_empty (none_there found e)
+
+    pub runs_out : left ≤ 0 → is_some found ≡ true → rest_of (ending at.state Stopped) at.table ≡ rest_in (run f t budget was)
     unfolding run
     runs_out over e =
         let e' : left ≡ 0 = omega arith in
-        let end : run f t budget was ≡ closing at Stopped = r.rest ∙ ap (λ (k : ℕ). run f t k at) e' ∙ rw (← runs_least, ne_eqb _ _ e) in
+        let some = some_there found e in
+        let place = runs_place some.1 in
+        let end : run f t budget was ≡ closing at Stopped
+        = r.rest ∙ ap (λ (k : ℕ). run f t k at) e' ∙ rw (← place.0, ne_eqb _ _ place.1) in
         sym (ap rest_in end)
 
     -- a step: the pop is noticed, and what came of it
-    module _ (some : 0 < left) (queue : w ≡ none → ⊥) {stall : Stall} (noted : stall ≡ noticed at.stall (f_at at.state.work w)) {table : List ℕ}
-        (laid : table ≡ table_after at.stall stall at.table) where
+    module _ {fewer : ℕ} (some : left ≡ suc fewer) {w : ℕ} (queue : found ≡ Some w) {stall : Stall}
+        (noted : stall ≡ noticed at.stall (f_at at.state.work w)) {table : List ℕ} (laid : table ≡ table_after at.stall stall at.table) where
       pub runs_records : stall.recording ≡ true → Records table
       runs_records = rw laid (table_records at.stall stall at.table r.sound.watches.records)
 
-      module _ {after : State} {outcome : Outcome} {left-table : List ℕ}
+      module _ {after : State} {outcome : Option Finish} {left-table : List ℕ}
           (came : (y : Stall) → y.recording ≡ stall.recording
           → turning (searching after y left-table) outcome ≡ visited f t (searching (popped f t at.state w) y table) w) where
         abbrev onto : Searching
@@ -96,19 +113,18 @@ module _ {plan vs ps : List ℕ} {t : Task} {budget : ℕ} {was at : Searching} 
 
         stepped : turning onto outcome ≡ step f t at
         unfolding step watched
-        stepped = came stall refl ∙ rw (← runs_least, ne_eqb _ _ queue, laid, noted)
+        stepped = came stall refl ∙ rw (← (runs_place queue).0, ne_eqb _ _ (runs_place queue).1, laid, noted)
 
-        turned : run f t budget was ≡ onwards f t onto outcome (run f t (left - 1))
+        turned : run f t budget was ≡ onwards f t onto outcome (run f t fewer)
         unfolding run
         turned =
-            let e : left ≡ suc (left - 1) = omega arith in
-            r.rest ∙ ap (λ (k : ℕ). run f t k at) e ∙ ap (λ (x : Turn). onwards f t x.search x.outcome (run f t (left - 1))) (sym stepped)
+            r.rest ∙ ap (λ (k : ℕ). run f t k at) some ∙ ap (λ (x : Turn). onwards f t x.search x.outcome (run f t fewer)) (sym stepped)
 
-        pub runs_ends : {finish : Finish} → outcome ≡ Ends finish → rest_of (ending after finish) left-table ≡ rest_in (run f t budget was)
-        runs_ends e = sym (ap rest_in (turned ∙ ap (λ (o : Outcome). onwards f t onto o (run f t (left - 1))) e))
+        pub runs_ends : {finish : Finish} → outcome ≡ Some finish → rest_of (ending after finish) left-table ≡ rest_in (run f t budget was)
+        runs_ends e = sym (ap rest_in (turned ∙ ap (λ (o : Option Finish). onwards f t onto o (run f t fewer)) e))
 
-        pub runs_next : outcome ≡ Goes → AsLong after at.state → length left-table ≡ length at.table → Runs plan vs ps t budget was onto (left - 1)
-        runs_next e long table_long =
+        pub runs_next : outcome ≡ None → length left-table ≡ length at.table → Runs plan vs ps t budget was onto fewer
+        runs_next e table_long =
             let g = r.ground in
             let seed = r.sound.from.seed in
             let sound = r.sound.from.sound in
@@ -124,14 +140,9 @@ module _ {plan vs ps : List ℕ} {t : Task} {budget : ℕ} {was at : Searching} 
                 };
                 watches = subst (λ (x : Turn). Watches x.search) (sym stepped) (watches_step plan vs ps t seed g at sound r.sound.watches);
               };
-              long = record {
-                floats_long = long.floats_long ∙ r.long.floats_long;
-                words_long = long.words_long ∙ r.long.words_long;
-                queue_long = long.queue_long ∙ r.long.queue_long;
-              };
               table_long = table_long ∙ r.table_long;
               count = let p = rw (← stepped) at (pops_step f t at) in omega (arith, p, r.count, some);
-              rest = turned ∙ ap (λ (o : Outcome). onwards f t onto o (run f t (left - 1))) e;
+              rest = turned ∙ ap (λ (o : Option Finish). onwards f t onto o (run f t fewer)) e;
             }
 
 -- ---- a search begins

@@ -8,18 +8,18 @@ use borrow.Author.Tests.{eq-eqb, ne_eqb, lt-ltb}
 use lib.Dec.{eqb}
 use lib.Ieee.{Float, lt}
 use lib.ListN.{length}
+use Rattle.std.specs.Prelude.{Option, Some, None}
 use Rattle.stored.specs.Stored.{Floor, floor_in}
 use Rattle.steps.specs.declared.Node.{Node}
 use Rattle.steps.specs.Steps.{steps_from}
 use Rattle.steps.specs.World.{is_in_goal}
-use Rattle.queue.specs.Queue.{none, put, least_of, NoNan, Tree}
+use Rattle.queue.specs.Queue.{none, place_named, put, least_of, NoNan, Tree}
 use Rattle.queue.specs.Words.{column, queued_in, queue_of}
 use Rattle.machine.specs.declared.Task.{Task}
 use Rattle.machine.specs.declared.Counts.{Counts}
 use Rattle.machine.specs.declared.Origin.{Origin}
 use Rattle.machine.specs.declared.Finish.TheVariants.{Arrived, Filled, Crowded}
-use Rattle.machine.specs.declared.Outcome.TheVariants.{Goes, Ends}
-use Rattle.places.specs.Layout.{work_of, node_at, parent_in, depth_at, number_in, number_at, record_for, record_distance, f_at, is_queued, least_in}
+use Rattle.places.specs.Layout.{work_of, node_at, parent_in, number_in, number_at, record_for, record_distance, f_at, is_queued, least_in}
 use Rattle.seen.specs.declared.Entry.{Entry}
 use Rattle.seen.specs.declared.Entry.TheVariants.{New, Seen, NoRoom}
 use Rattle.seen.specs.Table.{key_of, remembered_of, remembered}
@@ -52,6 +52,23 @@ pub record Popped (s : State) (i : ℕ) (node : Node) (number : ℕ) (distance :
   pub numbered : number ≡ number_at s.work i
   pub told : distance ≡ record_distance s.work.floats number
 
+-- where its steps are made from
+module _ (s : State) (i : ℕ) {o : Origin} (own : o ≡ origin_at s.work i) where
+  pub own_number : o.number ≡ number_at s.work i
+  unfolding origin_at
+  own_number = ap (λ (y : Origin). y.number) own
+
+  pub own_place : o.place ≡ i
+  unfolding origin_at
+  own_place = ap (λ (y : Origin). y.place) own
+
+  pub own_still : o ≡ origin_at s.work o.place
+  own_still = own ∙ ap (origin_at s.work) (sym own_place)
+
+  pub popped_from : i < s.counts.taken → {distance : Float} → distance ≡ record_distance s.work.floats o.number → Popped s i o.node o.number distance
+  unfolding origin_at
+  popped_from l told = record { low = l; read = ap (λ (y : Origin). y.node) own; numbered = own_number; told = told }
+
 module _ {plan vs ps : List ℕ} {t : Task} (x : Searching) (h : SoundFrom plan vs ps t x.state) {i : ℕ} {node : Node} {number : ℕ} {distance : Float}
     (p : Popped x.state i node number distance) where
   abbrev f : Floor
@@ -70,7 +87,7 @@ module _ {plan vs ps : List ℕ} {t : Task} (x : Searching) (h : SoundFrom plan 
       ap (λ (y : Node). record_for s.work.floats records y.root) p.read ∙ m.found ∙ sym p.numbered in
       rw (p.told, found, lt-ltb number records (omega (arith, p.numbered, m.low)))
 
-  pub visits_beaten : lt distance node.length ≡ true → turning x Goes ≡ visited f t x i
+  pub visits_beaten : lt distance node.length ≡ true → turning x None ≡ visited f t x i
   unfolding visited
   visits_beaten e = rw (← p.read, ← beats, e)
 
@@ -84,21 +101,16 @@ module _ {plan vs ps : List ℕ} {t : Task} (x : Searching) (h : SoundFrom plan 
     unfolding visited
     visits_met = rw (← p.read, ← beats, e, asked, ← told) refl
 
-    pub visits_seen : entry ≡ Seen → turning (searching s x.stall table) Goes ≡ visited f t x i
+    pub visits_seen : entry ≡ Seen → turning (searching s x.stall table) None ≡ visited f t x i
     visits_seen d = ap (λ (y : Entry). met f t x i y table) (sym d) ∙ visits_met
 
-    pub visits_no_room : entry ≡ NoRoom → turning (searching s x.stall table) (Ends Crowded) ≡ visited f t x i
+    pub visits_no_room : entry ≡ NoRoom → turning (searching s x.stall table) (Some Crowded) ≡ visited f t x i
     visits_no_room d = ap (λ (y : Entry). met f t x i y table) (sym d) ∙ visits_met
 
     pub visits_new : entry ≡ New → {v : Stepping} → v ≡ pursued f t s i → turning (searching v.state x.stall table) v.outcome ≡ visited f t x i
     visits_new d pursuit =
         ap (λ (y : Stepping). turning (searching y.state x.stall table) y.outcome) pursuit
         ∙ ap (λ (y : Entry). met f t x i y table) (sym d) ∙ visits_met
-
-  -- what its steps are made from
-  pub origin_is : {depth : ℕ} → depth ≡ depth_at s.work i → record { place = i; depth = depth; number = number; node = node } ≡ origin_at s.work i
-  unfolding origin_at
-  origin_is d = rw (d, p.numbered, p.read) refl
 
 -- ---- a node that is new
 
@@ -111,16 +123,16 @@ module _ {plan vs ps : List ℕ} {t : Task} {s : State} (h : SoundFrom plan vs p
   unfolding origin_at
   its_node = ap (λ (y : Origin). y.node) own
 
-  pub pursues_goal : o.node.polygon ≡ t.trip.to → stepping s (Ends (Arrived i)) ≡ pursued floor t s i
+  pub pursues_goal : o.node.polygon ≡ t.trip.to → stepping s (Some (Arrived i)) ≡ pursued floor t s i
   unfolding pursued is_in_goal
   pursues_goal g = rw (← its_node, eq-eqb _ _ g)
 
   module _ (g : o.node.polygon ≡ t.trip.to → ⊥) {m : Making} (made : m ≡ made_all floor t s o (steps_from floor t.trip.to o.node)) where
-    pub pursues_full : m.full ≡ true → stepping m.state (Ends Filled) ≡ pursued floor t s i
+    pub pursues_full : m.full ≡ true → stepping m.state (Some Filled) ≡ pursued floor t s i
     unfolding pursued is_in_goal
     pursues_full full = rw (← its_node, ne_eqb _ _ g, ← own, ← made, full)
 
-    pub pursues_on : m.full ≡ false → stepping m.state Goes ≡ pursued floor t s i
+    pub pursues_on : m.full ≡ false → stepping m.state None ≡ pursued floor t s i
     unfolding pursued is_in_goal
     pursues_on full = rw (← its_node, ne_eqb _ _ g, ← own, ← made, full)
 
@@ -144,10 +156,11 @@ module _ {plan vs ps : List ℕ} {t : Task} {s : State} (h : SoundFrom plan vs p
 
 -- ---- a step
 
-module _ {plan vs ps : List ℕ} {t : Task} {s : State} (h : SoundFrom plan vs ps t s) {w : ℕ} where
-  -- the word that the tree gives is the least
-  pub least_is : ((f : ℕ → Float) (n : ℕ) (q : ℕ → Bool) → 0 < n → n ≤ none → NoNan f n q → Tree f n q s.work.queue → w ≡ least_of f n q)
-      → w ≡ least_in t.places s.work
+module _ {plan vs ps : List ℕ} {t : Task} {s : State} (h : SoundFrom plan vs ps t s) {found : Option ℕ} where
+  -- the place that the tree gives is the least
+  pub least_is : ((f : ℕ → Float) (n : ℕ) (q : ℕ → Bool) → 0 < n → n ≤ none → NoNan f n q → Tree f n q s.work.queue
+      → found ≡ place_named (least_of f n q))
+      → found ≡ place_named (least_in t.places s.work)
   least_is least =
       let sound = h.sound in
       least (f_at s.work) t.places (is_queued t.places s.work) (omega (arith, sound.some, sound.taken_in)) (omega (arith, sound.fit.room.few))

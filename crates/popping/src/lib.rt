@@ -1,26 +1,26 @@
 #![tactic(auto)]
 // The search as steps: each pops the least node, and either arrives, or makes that node's steps.
 
-ghost use Rattle.std.specs.Prelude.{◌≡◌, true, false, ◌+◌, ◌*◌, ◌≤◌, ◌<◌, ◌^◌, length};
-ghost use Rattle.stored.specs.Stored.{Floor, floor_in};
-ghost use Rattle.edges.specs.Ground.{Ground};
-ghost use Rattle.queue.specs.Queue.{none};
+ghost use Rattle.std.specs.Prelude.{◌≡◌, ℕ, Bool, Float, true, false, ◌+◌, ◌*◌, ◌≤◌, ◌<◌, ◌^◌, length};
+ghost use Rattle.stored.specs.Stored.{Floor};
+ghost use Rattle.edges.specs.AcceptedFloor.{the_floor};
+ghost use Rattle.queue.specs.Queue.{none, place_named, least_of, NoNan, Tree};
 ghost use Rattle.queue.specs.Words.{column};
-ghost use Rattle.places.specs.Layout.{floats_per_place, f_cell, work_of, Room, least_in};
+ghost use Rattle.places.specs.Layout.{floats_per_place, words_per_place, f_cell, parent_in, record_distance, Room, least_in};
 ghost use Rattle.seen.specs.Kept.{Records};
 ghost use Rattle.machine.specs.declared.Stall.{Stall};
-ghost use Rattle.machine.specs.Search.{state_of, making, stepping, ending, searching, turning, rest_of, rest_in, origin_at, pursued, popped, planted, outset};
+ghost use Rattle.machine.specs.Buffers.{work_in, state_in, SameBuffers};
+ghost use Rattle.machine.specs.Search.{making, stepping, ending, searching, turning, rest_of, rest_in, origin_at, pursued, popped, planted, outset};
 ghost use Rattle.machine.specs.Search.{patience, calm, noticed, table_after, visited, run, searched_from};
 ghost use Rattle.machine.specs.Sound.{Begins, SoundFrom};
 
-use machine::{Counts, Ended, Finish, Made, Origin, Outcome, Stall, Stepped, Task};
-use making::make_steps;
+use edges::AcceptedFloor;
+use machine::{Buffers, Counts, Ended, Finish, Made, Origin, Stall, Stepped, Task};
+use making::{by_f, make_steps};
 use places::{
-    F_AT, FLOATS, QUEUE_WORDS, SEED, depth_at, f_at, node_at, number_at, put_floats, put_record,
-    put_words, record_distance,
+    QUEUE_WORDS, SEED, depth_at, f_at, node_at, number_at, put_floats, put_record, put_words,
+    record_distance,
 };
-use plan::PLAN;
-use queue::NONE;
 use seen::Entry;
 use steps::Node;
 
@@ -32,7 +32,7 @@ fn calm() -> Stall
     ensures { result ≡ calm }
 {
     Stall {
-        last_f: -(1.0f32 / 0.0f32),
+        last_f: f32::NEG_INFINITY,
         count: 0,
         recording: false,
     }
@@ -55,22 +55,22 @@ fn noticed(stall: Stall, f: f32) -> Stall
     }
     let count = stall.count + 1;
     Stall {
-        last_f: stall.last_f,
         count,
         recording: PATIENCE < count,
+        ..stall
     }
 }
 
 // The pop of place i is noticed, and the table is laid out where recording begins.
-fn watch(stall: Stall, floats: &[f32], i: usize, table: &mut [u32]) -> Stall
-    requires { (stall.recording ≡ false → stall.count ≤ patience) × ((i + 1) * floats_per_place ≤ length floats.now) }
-    ensures value { result ≡ noticed stall (column floats.now floats_per_place f_cell i) }
+fn watch(stall: Stall, work: &Buffers, i: usize, table: &mut [u32]) -> Stall
+    requires { (stall.recording ≡ false → stall.count ≤ patience) × ((i + 1) * floats_per_place ≤ length work.now.floats.now) }
+    ensures value { result ≡ noticed stall (column work.now.floats.now floats_per_place f_cell i) }
     ensures table_after { table.new ≡ table_after stall result table.old }
 {
     if stall.recording {
         return stall;
     }
-    let stall = noticed(stall, f_at(floats, i));
+    let stall = noticed(stall, f_at(work.floats, i));
     if stall.recording {
         seen::lay_out(table);
         return stall;
@@ -80,186 +80,184 @@ fn watch(stall: Stall, floats: &[f32], i: usize, table: &mut [u32]) -> Stall
 
 // Looks at a node that is new: it has arrived, or its steps are made.
 fn pursue(
-    vertices: &[u8],
-    polygons: &[u8],
-    plan: &[u32; PLAN],
+    floor: &AcceptedFloor,
     task: Task,
     counts: Counts,
     from: Origin,
-    floats: &mut [f32],
-    words: &mut [u32],
-    tree: &mut [u32],
+    work: &mut Buffers,
 ) -> Stepped
-    requires ground { Ground plan.now vertices.now polygons.now }
-    requires sound_from { SoundFrom plan.now vertices.now polygons.now task (state_of (work_of floats.old words.old tree.old) counts) }
-    requires place_lt_taken { (from.place < counts.taken) × (from ≡ origin_at (work_of floats.old words.old tree.old) from.place) }
-    ensures { let f = floor_in plan.now vertices.now polygons.now in
-        let before = state_of (work_of floats.old words.old tree.old) counts in
-        let after = state_of (work_of floats.new words.new tree.new) result.counts in
+    requires sound_from { let g = floor.now in
+        SoundFrom g.plan.now g.vertices.now g.polygons.now task (state_in work.old counts) }
+    requires place_lt_taken { (from.place < counts.taken) × (from ≡ origin_at (work_in work.old) from.place) }
+    ensures outcome { let f = the_floor floor.now in
+        let before = state_in work.old counts in
+        let after = state_in work.new result.counts in
         stepping after result.outcome ≡ pursued f task before from.place }
+    ensures buffers { SameBuffers work.old work.new }
 {
     let node = from.node;
     if node.polygon == task.trip.to {
         return Stepped {
             counts,
-            outcome: Outcome::Ends(Finish::Arrived(from.place)),
+            outcome: Some(Finish::Arrived(from.place)),
         };
     }
-    let made = make_steps(
-        vertices, polygons, plan, task, counts, from, floats, words, tree,
-    );
+    let made = make_steps(floor, task, counts, from, work);
     let counts = made.counts;
     if made.full {
         return Stepped {
             counts,
-            outcome: Outcome::Ends(Finish::Filled),
+            outcome: Some(Finish::Filled),
         };
     }
     Stepped {
         counts,
-        outcome: Outcome::Goes,
+        outcome: None,
     }
 }
 
-// Looks at the node that was popped: it is dropped, or no entry is left for it, or the search goes on from it. The number of its
-// root's record was kept with it.
+// Where place i's steps are made from. The number of its root's record was kept with it.
+#[tactic(auto, unfolding(machine::specs::Search::origin_at))]
+fn origin_of(work: &Buffers, i: usize) -> Origin
+    requires { ((i + 1) * floats_per_place ≤ length work.now.floats.now) × ((i + 1) * words_per_place ≤ length work.now.words.now)
+        × ((parent_in work.now.words.now i + 1) * words_per_place ≤ length work.now.words.now) }
+    ensures { result ≡ origin_at (work_in work.now) i }
+{
+    Origin {
+        place: i,
+        depth: depth_at(work.words, i),
+        number: number_at(work.words, i) as usize,
+        node: node_at(work.floats, work.words, i),
+    }
+}
+
+// The distance on the record with this number.
+fn distance_of(work: &Buffers, number: usize) -> f32
+    requires { (number + 1) * floats_per_place ≤ length work.now.floats.now }
+    ensures { result ≡ record_distance work.now.floats.now number }
+{
+    record_distance(work.floats, number)
+}
+
+// Looks at the node that was popped: it is dropped, or no entry is left for it, or the search goes on from it.
 fn visit(
-    vertices: &[u8],
-    polygons: &[u8],
-    plan: &[u32; PLAN],
+    floor: &AcceptedFloor,
     task: Task,
     counts: Counts,
     recording: bool,
     i: usize,
-    floats: &mut [f32],
-    words: &mut [u32],
-    tree: &mut [u32],
+    work: &mut Buffers,
     table: &mut [u32],
 ) -> Stepped
-    requires ground { Ground plan.now vertices.now polygons.now }
-    requires sound_from { SoundFrom plan.now vertices.now polygons.now task (state_of (work_of floats.old words.old tree.old) counts) }
+    requires sound_from { let g = floor.now in
+        SoundFrom g.plan.now g.vertices.now g.polygons.now task (state_in work.old counts) }
     requires i_lt_taken { (i < counts.taken) × (recording ≡ true → Records table.old) }
-    ensures { let f = floor_in plan.now vertices.now polygons.now in
-        let before = state_of (work_of floats.old words.old tree.old) counts in
-        let after = state_of (work_of floats.new words.new tree.new) result.counts in
+    ensures outcome { let f = the_floor floor.now in
+        let before = state_in work.old counts in
+        let after = state_in work.new result.counts in
         ((stall : Stall) → stall.recording ≡ recording
         → turning (searching after stall table.new) result.outcome ≡ visited f task (searching before stall table.old) i) }
+    ensures buffers { SameBuffers work.old work.new }
 {
-    let node = node_at(floats, words, i);
-    let number = number_at(words, i) as usize;
-    if record_distance(floats, number) < node.length {
+    let from = origin_of(work, i);
+    if distance_of(work, from.number) < from.node.length {
         return Stepped {
             counts,
-            outcome: Outcome::Goes,
+            outcome: None,
         };
     }
-    match seen::remember(recording, table, node) {
+    match seen::remember(recording, table, from.node) {
         Entry::Seen => Stepped {
             counts,
-            outcome: Outcome::Goes,
+            outcome: None,
         },
         Entry::NoRoom => Stepped {
             counts,
-            outcome: Outcome::Ends(Finish::Crowded),
+            outcome: Some(Finish::Crowded),
         },
-        Entry::New => {
-            let from = Origin {
-                place: i,
-                depth: depth_at(words, i),
-                number,
-                node,
-            };
-            pursue(
-                vertices, polygons, plan, task, counts, from, floats, words, tree,
-            )
-        }
+        Entry::New => pursue(floor, task, counts, from, work),
     }
 }
 
 // Takes the least place out of the queue, counts one, and looks at it.
 #[tactic(auto, unfolding(machine::specs::Search::counted))]
 fn pop(
-    vertices: &[u8],
-    polygons: &[u8],
-    plan: &[u32; PLAN],
+    floor: &AcceptedFloor,
     task: Task,
     counts: Counts,
     recording: bool,
     i: usize,
-    floats: &mut [f32],
-    words: &mut [u32],
-    tree: &mut [u32],
+    work: &mut Buffers,
     table: &mut [u32],
 ) -> Stepped
-    requires ground { Ground plan.now vertices.now polygons.now }
-    requires sound_from { SoundFrom plan.now vertices.now polygons.now task (state_of (work_of floats.old words.old tree.old) counts) }
-    requires i_value { (i ≡ least_in task.places (work_of floats.old words.old tree.old)) × (i ≡ none → ⊥) }
+    requires sound_from { let g = floor.now in
+        SoundFrom g.plan.now g.vertices.now g.polygons.now task (state_in work.old counts) }
+    requires i_value { (i ≡ least_in task.places (work_in work.old)) × (i ≡ none → ⊥) }
     requires records { (recording ≡ true → Records table.old) × (counts.pops + 1 < 2 ^ 64) }
-    ensures { let f = floor_in plan.now vertices.now polygons.now in
-        let before = state_of (work_of floats.old words.old tree.old) counts in
-        let after = state_of (work_of floats.new words.new tree.new) result.counts in
+    ensures outcome { let f = the_floor floor.now in
+        let before = state_in work.old counts in
+        let after = state_in work.new result.counts in
         let without = popped f task before i in
         ((stall : Stall) → stall.recording ≡ recording
         → turning (searching after stall table.new) result.outcome ≡ visited f task (searching without stall table.old) i) }
+    ensures buffers { SameBuffers work.old work.new }
 {
-    queue::remove(tree, floats, FLOATS, F_AT, task.places, i);
+    let floats = &mut *work.floats;
+    let queue = &mut *work.queue;
+    queue::remove(queue, &by_f(floats, task.places), i);
     let counts = Counts {
-        taken: counts.taken,
-        records: counts.records,
         pops: counts.pops + 1,
+        ..counts
     };
-    visit(
-        vertices, polygons, plan, task, counts, recording, i, floats, words, tree, table,
-    )
+    visit(floor, task, counts, recording, i, work, table)
+}
+
+// The least place that is queued, or none where nothing is.
+fn least(work: &Buffers) -> Option<usize>
+    requires { 1 < length work.now.queue.now }
+    ensures { (f : ℕ → Float) (n : ℕ) (q : ℕ → Bool) → 0 < n → n ≤ none → NoNan f n q → Tree f n q work.now.queue.now
+        → result ≡ place_named (least_of f n q) }
+{
+    queue::least(work.queue)
 }
 
 // Steps until the search ends, or the budget is spent. A step pops the least node. The stall is known here alone: who looks at a node
 // only asks whether the search records.
 fn run(
-    vertices: &[u8],
-    polygons: &[u8],
-    plan: &[u32; PLAN],
+    floor: &AcceptedFloor,
     task: Task,
     counts: Counts,
     budget: usize,
-    floats: &mut [f32],
-    words: &mut [u32],
-    tree: &mut [u32],
+    work: &mut Buffers,
     table: &mut [u32],
 ) -> Ended
-    requires ground { Ground plan.now vertices.now polygons.now }
-    requires sound_from { SoundFrom plan.now vertices.now polygons.now task (state_of (work_of floats.old words.old tree.old) counts) }
+    requires sound_from { let g = floor.now in
+        SoundFrom g.plan.now g.vertices.now g.polygons.now task (state_in work.old counts) }
     requires budget_bound { counts.pops + budget < 2 ^ 64 }
-    ensures { let f = floor_in plan.now vertices.now polygons.now in
-        let before = state_of (work_of floats.old words.old tree.old) counts in
-        let after = state_of (work_of floats.new words.new tree.new) result.counts in
+    ensures rest { let f = the_floor floor.now in
+        let before = state_in work.old counts in
+        let after = state_in work.new result.counts in
         rest_of (ending after result.finish) table.new ≡ rest_in (run f task budget (searching before calm table.old)) }
+    ensures buffers { SameBuffers work.old work.new }
 {
     let mut counts = counts;
     let mut stall = calm();
-    let mut left = budget;
-    while 0 < left {
-        let least = queue::least(tree);
-        if least == NONE {
+    for _ in 0..budget {
+        let Some(i) = least(work) else {
             return Ended {
                 counts,
                 finish: Finish::Emptied,
             };
-        }
-        let i = least as usize;
-        stall = watch(stall, floats, i, table);
+        };
+        stall = watch(stall, work, i, table);
         let recording = stall.recording;
-        let stepped = pop(
-            vertices, polygons, plan, task, counts, recording, i, floats, words, tree, table,
-        );
+        let stepped = pop(floor, task, counts, recording, i, work, table);
         counts = stepped.counts;
-        let outcome = stepped.outcome;
-        if let Outcome::Ends(finish) = outcome {
+        if let Some(finish) = stepped.outcome {
             return Ended { counts, finish };
         }
-        left -= 1;
     }
-    if queue::least(tree) == NONE {
+    if least(work).is_none() {
         return Ended {
             counts,
             finish: Finish::Emptied,
@@ -273,38 +271,32 @@ fn run(
 
 // The seed takes place 0, and its root is on record with distance 0.
 #[tactic(auto, unfolding(machine::specs::Search::planted))]
-fn plant(task: Task, seed: Node, floats: &mut [f32], words: &mut [u32], tree: &mut [u32])
-    requires { Room task.places (work_of floats.old words.old tree.old) × (1 ≤ task.places) }
-    ensures { let before = work_of floats.old words.old tree.old in
-        let after = work_of floats.new words.new tree.new in
+fn plant(task: Task, seed: Node, work: &mut Buffers)
+    requires { Room task.places (work_in work.old) × (1 ≤ task.places) }
+    ensures planted { let before = work_in work.old in
+        let after = work_in work.new in
         ((f : Floor) → after ≡ planted f task seed before) }
+    ensures buffers { SameBuffers work.old work.new }
 {
-    queue::clear(tree, QUEUE_WORDS * task.places);
-    put_floats(floats, 0, seed, 0.0);
-    put_words(words, 0, SEED, seed, 0, 0, 0);
-    put_record(floats, 0, seed.root, 0.0);
+    queue::clear(work.queue, QUEUE_WORDS * task.places);
+    put_floats(work.floats, 0, seed, 0.0);
+    put_words(work.words, 0, SEED, seed, 0, 0, 0);
+    put_record(work.floats, 0, seed.root, 0.0);
 }
 
 // Plants the seed and makes its steps. It stands in a function of its own, since what it holds is done with when the search goes on, and
 // its room is free.
-fn set_out(
-    vertices: &[u8],
-    polygons: &[u8],
-    plan: &[u32; PLAN],
-    task: Task,
-    floats: &mut [f32],
-    words: &mut [u32],
-    tree: &mut [u32],
-) -> Made
-    requires { Begins plan.now vertices.now polygons.now task (work_of floats.old words.old tree.old) }
-    ensures { let f = floor_in plan.now vertices.now polygons.now in
-        let before = work_of floats.old words.old tree.old in
-        let after = state_of (work_of floats.new words.new tree.new) result.counts in
+fn set_out(floor: &AcceptedFloor, task: Task, work: &mut Buffers) -> Made
+    requires { let g = floor.now in Begins g.plan.now g.vertices.now g.polygons.now task (work_in work.old) }
+    ensures made { let f = the_floor floor.now in
+        let before = work_in work.old in
+        let after = state_in work.new result.counts in
         making after result.full ≡ outset f task before }
+    ensures buffers { SameBuffers work.old work.new }
 {
     let trip = task.trip;
     let seed = Node::seed(trip.start, trip.from);
-    plant(task, seed, floats, words, tree);
+    plant(task, seed, work);
     let counts = Counts {
         taken: 1,
         records: 1,
@@ -316,30 +308,25 @@ fn set_out(
         number: 0,
         node: seed,
     };
-    make_steps(
-        vertices, polygons, plan, task, counts, from, floats, words, tree,
-    )
+    make_steps(floor, task, counts, from, work)
 }
 
 // Searches from the trip's start, whose polygon is not the goal's.
 pub fn search_from(
-    vertices: &[u8],
-    polygons: &[u8],
-    plan: &[u32; PLAN],
+    floor: &AcceptedFloor,
     task: Task,
     budget: usize,
-    floats: &mut [f32],
-    words: &mut [u32],
-    tree: &mut [u32],
+    work: &mut Buffers,
     table: &mut [u32],
 ) -> Ended
-    requires { Begins plan.now vertices.now polygons.now task (work_of floats.old words.old tree.old) }
-    ensures { let f = floor_in plan.now vertices.now polygons.now in
-        let before = work_of floats.old words.old tree.old in
-        let after = state_of (work_of floats.new words.new tree.new) result.counts in
+    requires { let g = floor.now in Begins g.plan.now g.vertices.now g.polygons.now task (work_in work.old) }
+    ensures rest { let f = the_floor floor.now in
+        let before = work_in work.old in
+        let after = state_in work.new result.counts in
         rest_of (ending after result.finish) table.new ≡ rest_in (searched_from f task budget before table.old) }
+    ensures buffers { SameBuffers work.old work.new }
 {
-    let made = set_out(vertices, polygons, plan, task, floats, words, tree);
+    let made = set_out(floor, task, work);
     let counts = made.counts;
     if made.full {
         return Ended {
@@ -347,7 +334,5 @@ pub fn search_from(
             finish: Finish::Filled,
         };
     }
-    run(
-        vertices, polygons, plan, task, counts, budget, floats, words, tree, table,
-    )
+    run(floor, task, counts, budget, work, table)
 }

@@ -5,15 +5,15 @@ use mathlib.Core.Path.{◌≡◌, refl, ap}
 use mathlib.Core.Bool.{Bool, true, false, cond}
 use mathlib.Core.List.{List}
 use lib.Dec.{eqb}
-use Rattle.floor.specs.declared.Look.{Look}
-use Rattle.floor.specs.declared.Look.TheVariants.{Inside, Refused}
+use Rattle.std.specs.Prelude.{Option, Some, None, Result, Ok, Err}
+use Rattle.floor.specs.declared.Refusal.{Refusal}
+use Rattle.floor.specs.declared.Inside.{Inside}
 use Rattle.floor.specs.Look.{look_of}
 use Rattle.stored.specs.Stored.{Floor, floor_of, question_of}
 use Rattle.queue.specs.Queue.{none}
 use Rattle.machine.specs.declared.Task.{Task}
 use Rattle.machine.specs.declared.Finish.TheVariants.{Emptied, Filled, Stopped}
-use Rattle.machine.specs.declared.Outcome.{Outcome}
-use Rattle.machine.specs.declared.Outcome.TheVariants.{Goes, Ends}
+use Rattle.machine.specs.declared.Finish.{Finish}
 use Rattle.places.specs.Layout.{least_in, places_in}
 use Rattle.machine.specs.Search.{Searching, Close, closing, searching, rest_in, calm, step, onwards, run, searched_from, outset, Making}
 use Rattle.writing.specs.declared.Answer.TheVariants.{Spent, NoPlaces}
@@ -49,11 +49,11 @@ module _ (f : Floor) (t : Task) where
       let e : suc budget + more ≡ suc (budget + more) = omega arith in
       rw e (go (step f t x).outcome (step f t x).search h (run_longer budget more))
     where
-      go : (o : Outcome) (u : Searching) → ((onwards f t u o (run f t budget)).finish ≡ Stopped → ⊥)
+      go : (o : Option Finish) (u : Searching) → ((onwards f t u o (run f t budget)).finish ≡ Stopped → ⊥)
           → ((v : Searching) → ((run f t budget v).finish ≡ Stopped → ⊥) → run f t (budget + more) v ≡ run f t budget v)
           → onwards f t u o (run f t (budget + more)) ≡ onwards f t u o (run f t budget)
-      go Goes u h next = next u h
-      go (Ends finish) u h next = refl
+      go None u h next = next u h
+      go (Some finish) u h next = refl
 
   -- the same of a whole search
   pub search_longer : (budget more : ℕ) (lent : Lent) → ((searched_from f t budget lent.work lent.table).finish ≡ Stopped → ⊥)
@@ -112,10 +112,10 @@ pub larger_budget_same : (s : ℕ) (vs ps question : List ℕ) (budget : ℕ) (l
 unfolding search_of
 larger_budget_same s vs ps question budget lent more out = go (look_of s vs ps question)
   where
-    with_budget : ℕ → Look → Searched
+    with_budget : ℕ → Result Inside Refusal → Searched
     with_budget n look = if_inside look lent out (λ from to. between_of (floor_of s vs ps) (trip_of (question_of question) from to) n lent out)
 
-    go : (look : Look) → ((steps : ℕ) → (with_budget budget look).answer ≡ Spent steps → ⊥)
+    go : (look : Result Inside Refusal) → ((steps : ℕ) → (with_budget budget look).answer ≡ Spent steps → ⊥)
         → with_budget (budget + more) look ≡ with_budget budget look
-    go (Inside from to) h = between_longer (floor_of s vs ps) (trip_of (question_of question) from to) lent out budget more h
-    go (Refused r) h = refl
+    go (Ok i) h = between_longer (floor_of s vs ps) (trip_of (question_of question) i.start i.goal) lent out budget more h
+    go (Err r) h = refl

@@ -4,8 +4,9 @@ use Prim.Native.Nat.{ℕ}
 use mathlib.Core.Path.{◌≡◌, sym, ap, ◌∙◌}
 use mathlib.Core.List.{List}
 use lib.Ieee.{Float}
-use Rattle.floor.specs.declared.FloorLook.{FloorLook}
-use Rattle.readout.specs.declared.Readout.{Readout}
+use Rattle.std.specs.Prelude.{Result}
+use Rattle.floor.specs.declared.Refusal.{Refusal}
+use Rattle.readout.specs.declared.Unlisted.{Unlisted}
 use Rattle.search.specs.Whole.{Searched}
 use Rattle.cart_c.specs.Handed.{Handed}
 use Rattle.promises.specs.Permits.{Coincide, SeenOfSearch, SeenInC, DefaultIs4096}
@@ -13,15 +14,15 @@ use Rattle.told.proofs.Told.number.Reads as told-number
 use Rattle.search.proofs.search.Reads as search
 use Rattle.search.proofs.search_default.Reads as search-default
 use Rattle.places.proofs.places_in.Reads as places-in
-use Rattle.writing.proofs.Answer.told.Reads as answer-told
+use Rattle.writing.proofs.ToldFromAnswer.from.Reads as answer-told
 use Rattle.writing.proofs.Answer.steps.Reads as answer-steps
 use Rattle.judge.proofs.judge.Reads as judge
-use Rattle.judge.proofs.Verdict.told.Reads as verdict-told
+use Rattle.judge.proofs.told.Reads as verdict-told
 use Rattle.readout.proofs.read_out.Reads as read_out
-use Rattle.readout.proofs.Readout.told.Reads as readout-told
+use Rattle.readout.proofs.told.Reads as readout-told
 use Rattle.floor.proofs.look_at_floor.Reads as look-at-floor
 use Rattle.floor.proofs.look_at.Reads as look_at
-use Rattle.floor.proofs.Refusal.told.Reads as refusal-told
+use Rattle.floor.proofs.ToldFromRefusal.from.Reads as refusal-told
 use Rattle.says.proofs.words.Reads as words
 use Rattle.cart_c.proofs.cart_judge.Reads as cart-judge
 use Rattle.cart_c.proofs.cart_read_out.Reads as cart-read-out
@@ -102,7 +103,7 @@ judge_coincides κs a z y e f p q = p ∙ sym q
 pub verdict_told_coincides : Coincide verdict-told.Post (λ z e. z)
 verdict_told_coincides κs a z y e f p q = p ∙ sym q
 
-pub read_out_coincides : Coincide {S = Readout × List Float} read_out.Post (λ z e. (z, e.1.1.1.1.0.now))
+pub read_out_coincides : Coincide {S = Result ℕ Unlisted × List Float} read_out.Post (λ z e. (z, e.1.1.1.1.0.now))
 read_out_coincides κs a z y e f p q = pair (p.0 ∙ sym q.0) (p.1 ∙ sym q.1)
 
 pub readout_told_coincides : Coincide readout-told.Post (λ z e. z)
@@ -110,7 +111,7 @@ readout_told_coincides κs a z y e f p q = p ∙ sym q
 
 -- ---- the floor
 
-pub look_at_floor_coincides : Coincide {S = FloorLook × List ℕ} look-at-floor.Post (λ z e. (z, e.1.1.0.now))
+pub look_at_floor_coincides : Coincide {S = Result Unit Refusal × List ℕ} look-at-floor.Post (λ z e. (z, e.1.1.0.now))
 look_at_floor_coincides κs a z y e f p q = pair (p.0 ∙ sym q.0) (p.1 ∙ sym q.1)
 
 pub look_at_coincides : Coincide look_at.Post (λ z e. z)

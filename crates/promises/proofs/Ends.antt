@@ -13,7 +13,7 @@ use Rattle.stored.proofs.Records.{polygons_counted}
 use Rattle.edges.specs.Where.{plan_of}
 use Rattle.edges.specs.Ground.{Ground}
 use Rattle.edges.proofs.Turned.{plan_slots, ground}
-use Rattle.floor.specs.declared.Look.TheVariants.{Inside}
+use Rattle.std.specs.Prelude.{Ok}
 use Rattle.floor.specs.Look.{look_of}
 use Rattle.floor.proofs.Exact.{each_exactly}
 use Rattle.steps.specs.declared.Trip.{Trip}
@@ -53,15 +53,16 @@ sound_end lent places {plan} {vs} {ps} g trip listed budget =
 
 -- ---- the ground of a floor on which a look finds start and goal
 
-module _ (s : ℕ) (vs ps question : List ℕ) (some : 0 < s) (few : s ≤ 16) {from to : ℕ} (e : look_of s vs ps question ≡ Inside from to) where
+module _ (s : ℕ) (vs ps question : List ℕ) (some : 0 < s) (few : s ≤ 16) {from to : ℕ}
+    (e : look_of s vs ps question ≡ Ok (record { start = from; goal = to })) where
   pub its_ground : Ground (plan_of s vs ps) vs ps
   its_ground =
-      let h = ((each_exactly s vs ps question (Inside from to)).0 e).0 in
+      let h = ((each_exactly s vs ps question (Ok (record { start = from; goal = to }))).0 e).0 in
       ground s vs ps some few h.0.vertices_whole.some h.0.vertices_whole.few h.0.polygons_whole.few h.1
 
   pub its_start : from < polygon_count_in (plan_of s vs ps)
   its_start =
-      let listed = ((each_exactly s vs ps question (Inside from to)).0 e).2.listed in
+      let listed = ((each_exactly s vs ps question (Ok (record { start = from; goal = to }))).0 e).2.listed in
       subst (λ (n : ℕ). from < n) (polygons_counted its_ground.polygons_planned)
       (subst (λ (k : ℕ). from < length (polygons_of k ps)) (sym (plan_slots s vs ps)) listed)
 

@@ -9,13 +9,12 @@ use borrow.Author.Tests.{ltb-true, ltb-false, lt-ltb, le-ltb}
 use lib.Dec.{eqb, ltb}
 use lib.ListN.{length, take, drop}
 use lib.Seq.{take-append_seam}
-use Rattle.floor.specs.declared.Look.{Look}
-use Rattle.floor.specs.declared.Look.TheVariants.{Inside, Refused}
+use Rattle.std.specs.Prelude.{Result, Ok, Err}
+use Rattle.floor.specs.declared.Refusal.{Refusal}
+use Rattle.floor.specs.declared.Inside.{Inside}
 use Rattle.floor.specs.Look.{look_of}
 use Rattle.stored.specs.Stored.{Floor, floor_of, question_of}
-use Rattle.route.specs.declared.Judged.TheVariants.{Accepted}
 use Rattle.route.proofs.Trails.{route_long}
-use Rattle.judge.specs.declared.Verdict.TheVariants.{Read}
 use Rattle.judge.proofs.Exact.{world_is_lawful, verdict_exactly}
 use Rattle.steps.specs.declared.Trip.{Trip}
 use Rattle.steps.specs.World.{trip_of}
@@ -70,10 +69,10 @@ pub search_tells : (s : ℕ) (vs ps question : List ℕ) (budget : ℕ) (lent : 
 unfolding search_of
 search_tells s vs ps question budget lent = go (look_of s vs ps question)
   where
-    go : (look : Look)
+    go : (look : Result Inside Refusal)
         → TellsTheSame (λ out. if_inside look lent out (λ from to. between_of (floor_of s vs ps) (trip_of (question_of question) from to) budget lent out))
-    go (Inside from to) = between_tells (floor_of s vs ps) (trip_of (question_of question) from to) budget lent
-    go (Refused r) = without (Turned r) lent tt (λ out. refl)
+    go (Ok i) = between_tells (floor_of s vs ps) (trip_of (question_of question) i.start i.goal) budget lent
+    go (Err r) = without (Turned r) lent tt (λ out. refl)
 
 -- ---- what is written
 
@@ -203,7 +202,7 @@ found_is_2_to_4097_records s vs ps question budget lent some few bytes out steps
     let told = found_tells search out (search_tells s vs ps question budget lent) steps n e in
     let r = told.0 in
     let accepted = found_is_accepted s vs ps question budget lent some few bytes out steps n e in
-    let route = ((verdict_exactly s vs ps question (take n (search out).out) bytes (Read Accepted)).0 accepted).1 in
+    let route = ((verdict_exactly s vs ps question (take n (search out).out) bytes (Ok tt)).0 accepted).1 in
     let size : length (take n (search out).out) ≡ n = ap length (route_front search out steps n r told.1) ∙ r.long in
     let long = route_long (world_is_lawful s vs ps question bytes) route in
     (omega (arith, size, long), omega (arith, size, long), omega (arith, size, long, route.few))

@@ -12,12 +12,10 @@ use lib.Seq.{sets}
 use Rattle.told.specs.Told.{number_of}
 use Rattle.point.specs.declared.Point.{Point}
 use Rattle.stored.specs.Stored.{floor_of}
-use Rattle.route.specs.declared.Judged.TheVariants.{Accepted, Length, NotSeed, NotStep, NotEnd}
-use Rattle.judge.specs.declared.Verdict.{Verdict}
-use Rattle.judge.specs.declared.Verdict.TheVariants.{Read}
-use Rattle.judge.specs.declared.Verdict.TheVariants.{Refused as Unjudged}
-use Rattle.readout.specs.declared.Readout.{Readout}
-use Rattle.readout.specs.declared.Readout.TheVariants.{Short, Listed}
+use Rattle.std.specs.Prelude.{Result, Ok, Err}
+use Rattle.judge.specs.declared.Unaccepted.{Unaccepted}
+use Rattle.readout.specs.declared.Unlisted.{Unlisted}
+use Rattle.readout.specs.declared.Unlisted.TheVariants.{Short}
 use Rattle.judge.specs.Verdict.{verdict_of}
 use Rattle.readout.specs.Readout.{floats_of, listed, listing, answer_if, out_if, route_points, readout_of, written_of, readout_told, readout_number}
 use Rattle.readout.proofs.read_out.Reads as read_out
@@ -70,14 +68,15 @@ one_polygon_leaves_buffers s vs ps question budget lent out from to e z same = r
 -- ---- the points of a read_out
 
 -- a read_out that is not 0
-abbrev NotRead : Readout → Type 0
+abbrev NotRead : Result ℕ Unlisted → Type 0
 NotRead answer = readout_number answer ≡ 0 → ⊥
 
 listing_leaves : (points : List Point) (out : List Float) → NotRead (listed points out) → listing points out ≡ out
 unfolding listed listing readout_told number_of
 listing_leaves points out = go (ltb (length out) (length points * 2))
   where
-    go : (b : Bool) → NotRead (cond {A = Readout} b Short (Listed (length points))) → cond {A = List Float} b out (sets out 0 (floats_of points)) ≡ out
+    go : (b : Bool) → NotRead (cond {A = Result ℕ Unlisted} b (Err Short) (Ok (length points)))
+        → cond {A = List Float} b out (sets out 0 (floats_of points)) ≡ out
     go true h = refl
     go false h = absurd (h refl)
 
@@ -88,13 +87,9 @@ read_out_leaves_points s vs ps question route out = go (verdict_of s vs ps quest
     points : List Point
     points = route_points (floor_of s vs ps) question route
 
-    go : (v : Verdict) → NotRead (answer_if v points out) → out_if v points out ≡ out
-    go (Read Accepted) h = listing_leaves points out h
-    go (Read Length) h = refl
-    go (Read NotSeed) h = refl
-    go (Read (NotStep i)) h = refl
-    go (Read (NotEnd i)) h = refl
-    go (Unjudged refusal) h = refl
+    go : (v : Result Unit Unaccepted) → NotRead (answer_if v points out) → out_if v points out ≡ out
+    go (Ok tt) h = listing_leaves points out h
+    go (Err unaccepted) h = refl
 
 -- ---- the contracts
 

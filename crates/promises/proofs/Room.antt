@@ -8,8 +8,9 @@ use borrow.Author.Tests.{ltb-true}
 use lib.Dec.{eqb, ltb}
 use lib.ListN.{length, drop}
 use Rattle.word.specs.Word.{Bytes}
-use Rattle.floor.specs.declared.Look.{Look}
-use Rattle.floor.specs.declared.Look.TheVariants.{Inside, Refused}
+use Rattle.std.specs.Prelude.{Some, Result, Ok, Err}
+use Rattle.floor.specs.declared.Refusal.{Refusal}
+use Rattle.floor.specs.declared.Inside.{Inside}
 use Rattle.plan.specs.Plan.{slots_in, polygon_count_in}
 use Rattle.stored.specs.Stored.{Floor, floor_of, floor_in, question_of}
 use Rattle.edges.specs.Ground.{Ground}
@@ -22,7 +23,6 @@ use Rattle.steps.proofs.World.{lawful}
 use Rattle.machine.specs.declared.Task.{Task}
 use Rattle.machine.specs.declared.Finish.{Finish}
 use Rattle.machine.specs.declared.Finish.TheVariants.{Arrived, Emptied, Filled, Stopped, Crowded}
-use Rattle.machine.specs.declared.Outcome.TheVariants.{Ends}
 use Rattle.writing.specs.declared.Answer.TheVariants.{Found, NoPlaces, Short}
 use Rattle.places.specs.Layout.{places_in}
 use Rattle.machine.specs.Search.{Ending, Rest}
@@ -71,7 +71,7 @@ module _ {plan vs ps : List ℕ} (g : Ground plan vs ps) (bytes : Bytes ps) (tri
     sound : Finishes plan vs ps task seed g (close_for f trip budget lent)
     sound = sound_end lent places g trip listed budget
 
-    by_finish : (finish : Finish) → Arrives plan vs ps task seed g end.state (Ends finish) → (counted steps : ℕ)
+    by_finish : (finish : Finish) → Arrives plan vs ps task seed g end.state (Some finish) → (counted steps : ℕ)
         → (finished end.state.work trip finish counted out).answer ≡ Short steps → ⊥
     by_finish (Arrived i) at counted steps e =
         let long = route_long plan vs ps task end.state sound.sound (lawful (slots_in plan) vs ps bytes trip) i at.0 in
@@ -116,14 +116,16 @@ wide_is_never_short s vs ps question budget lent some few bytes out wide steps =
     trip : ℕ → ℕ → Trip
     trip from to = trip_of (question_of question) from to
 
-    go : (look : Look) → look_of s vs ps question ≡ look
+    go : (look : Result Inside Refusal) → look_of s vs ps question ≡ look
         → (if_inside look lent out (λ from to. between_of (floor_of s vs ps) (trip from to) budget lent out)).answer ≡ Short steps → ⊥
-    go (Inside from to) l e =
+    go (Ok i) l e =
+        let from = i.start in
+        let to = i.goal in
         let ground = its_ground s vs ps question some few l in
         let start = its_start s vs ps question some few l in
         by_slots s vs ps question some few l (λ (k : ℕ). (between_of (floor_of k vs ps) (trip from to) budget lent out).answer ≡ Short steps → ⊥)
         (between_wide ground bytes (trip from to) start lent budget out wide steps) e
-    go (Refused r) l e = let z : ◌≡◌ {A = ℕ} 0 1 = cc in omega arith
+    go (Err r) l e = let z : ◌≡◌ {A = ℕ} 0 1 = cc in omega arith
 
 -- ---- a larger output
 

@@ -8,13 +8,13 @@ use borrow.Author.Tests.{eqb-true}
 use lib.Dec.{eqb, ltb}
 use lib.ListN.{length, take, drop}
 use lib.Seq.{take-append_seam}
-use Rattle.floor.specs.declared.Look.{Look}
-use Rattle.floor.specs.declared.Look.TheVariants.{Inside, Refused}
+use Rattle.std.specs.Prelude.{Result, Ok, Err, Some}
+use Rattle.floor.specs.declared.Refusal.{Refusal}
+use Rattle.floor.specs.declared.Inside.{Inside}
 use Rattle.plan.specs.Plan.{polygon_count_in}
 use Rattle.stored.specs.Stored.{Floor, floor_of, floor_in, question_of}
 use Rattle.edges.specs.Ground.{Ground}
 use Rattle.floor.specs.Look.{look_of}
-use Rattle.route.specs.declared.Judged.TheVariants.{Accepted}
 use Rattle.route.specs.World.{World, TrueRoute}
 use Rattle.route.proofs.Verdicts.{accepted_exactly}
 use Rattle.steps.specs.declared.Node.{Node}
@@ -22,8 +22,7 @@ use Rattle.steps.specs.declared.Trip.{Trip}
 use Rattle.steps.specs.Steps.{seed_node}
 use Rattle.steps.specs.World.{trip_of, world_in}
 use Rattle.steps.proofs.World.{lawful}
-use Rattle.judge.specs.declared.Verdict.TheVariants.{Read}
-use Rattle.judge.specs.Verdict.{judge_if, judged_in, verdict_of}
+use Rattle.judge.specs.Verdict.{read_as, judge_if, judged_in, verdict_of}
 use Rattle.machine.specs.declared.Task.{Task}
 use Rattle.machine.specs.declared.Finish.{Finish}
 use Rattle.machine.specs.declared.Finish.TheVariants.{Arrived, Emptied, Filled, Stopped, Crowded}
@@ -32,7 +31,6 @@ use Rattle.places.specs.Layout.{places_in}
 use Rattle.machine.specs.Search.{Ending, Rest}
 use Rattle.writing.specs.Delivered.{Delivered, delivered_of, written, route_bytes, straight_bytes, finished, delivered}
 use Rattle.search.specs.Whole.{Lent, lent_of, Searched, searched_of, if_inside, with_lent, routed, between_of, search_of}
-use Rattle.machine.specs.declared.Outcome.TheVariants.{Ends}
 use Rattle.machine.proofs.Kept.{Arrives}
 use Rattle.machine.proofs.Turning.{Finishes}
 use Rattle.search.proofs.Found.{route_is_true, straight_is_true}
@@ -85,7 +83,7 @@ module _ {plan vs ps : List ℕ} (g : Ground plan vs ps) (trip : Trip) (listed :
     sound = sound_end lent places g trip listed budget
 
     -- however the search ended
-    by_finish : (finish : Finish) → Arrives plan vs ps task seed g end.state (Ends finish) → (counted steps n : ℕ)
+    by_finish : (finish : Finish) → Arrives plan vs ps task seed g end.state (Some finish) → (counted steps n : ℕ)
         → (finished end.state.work trip finish counted out).answer ≡ Found steps n
         → TrueRoute world (take n (finished end.state.work trip finish counted out).out)
     by_finish (Arrived i) at counted steps n e =
@@ -137,7 +135,7 @@ found_is_accepted s vs ps question budget lent some few bytes out steps n = go (
     trip : ℕ → ℕ → Trip
     trip from to = trip_of (question_of question) from to
 
-    found : Look → Searched
+    found : Result Inside Refusal → Searched
     found look = if_inside look lent out (λ from to. between_of (floor_of s vs ps) (trip from to) budget lent out)
 
     -- where it finds a route, that is a true one, of the floor with so many slots
@@ -146,11 +144,13 @@ found_is_accepted s vs ps question budget lent some few bytes out steps n = go (
         let answer = between_of (floor_of k vs ps) (trip from to) budget lent out in
         answer.answer ≡ Found steps n → TrueRoute (world_in (floor_of k vs ps) (trip from to)) (take n answer.out)
 
-    go : (look : Look) → look_of s vs ps question ≡ look → (found look).answer ≡ Found steps n
-        → judge_if look (judged_in (floor_of s vs ps) question (take n (found look).out)) ≡ Read Accepted
-    go (Inside from to) l e =
+    go : (look : Result Inside Refusal) → look_of s vs ps question ≡ look → (found look).answer ≡ Found steps n
+        → judge_if look (judged_in (floor_of s vs ps) question (take n (found look).out)) ≡ Ok tt
+    go (Ok i) l e =
+        let from = i.start in
+        let to = i.goal in
         let ground = its_ground s vs ps question some few l in
         let start = its_start s vs ps question some few l in
         let is_true = by_slots s vs ps question some few l (IsTrue from to) (between_is_true ground (trip from to) start lent budget out steps n) in
-        ap Read ((accepted_exactly (lawful s vs ps bytes (trip from to)) _).1 (is_true e))
-    go (Refused r) l e = let z : ◌≡◌ {A = ℕ} 0 1 = cc in absurd (omega arith)
+        ap read_as ((accepted_exactly (lawful s vs ps bytes (trip from to)) _).1 (is_true e))
+    go (Err r) l e = let z : ◌≡◌ {A = ℕ} 0 1 = cc in absurd (omega arith)

@@ -6,8 +6,9 @@ use mathlib.Core.Bool.{Bool, true, false, cond}
 use mathlib.Core.List.{List, ◌++◌}
 use lib.Dec.{eqb, ltb}
 use lib.ListN.{length, drop}
-use Rattle.floor.specs.declared.Look.{Look}
-use Rattle.floor.specs.declared.Look.TheVariants.{Inside, Refused}
+use Rattle.std.specs.Prelude.{Result, Ok, Err}
+use Rattle.floor.specs.declared.Refusal.{Refusal}
+use Rattle.floor.specs.declared.Inside.{Inside}
 use Rattle.floor.specs.Look.{look_of}
 use Rattle.stored.specs.Stored.{Floor, floor_of}
 use Rattle.edges.specs.Where.{plan_of}
@@ -117,7 +118,7 @@ module _ (s : ℕ) (vs ps question : List ℕ) (budget : ℕ) (lent : Lent) wher
     unfolding delivered
     full_is out steps finish counted = rw (finish, counted)
 
-    case_of : (out : List ℕ) (steps : ℕ) → look_of s vs ps question ≡ Inside from to → (a : Bool) → eqb (places_in lent.work) 0 ≡ a
+    case_of : (out : List ℕ) (steps : ℕ) → look_of s vs ps question ≡ Ok (record { start = from; goal = to }) → (a : Bool) → eqb (places_in lent.work) 0 ≡ a
         → (b : Bool) → eqb from to ≡ b → (by a b (told (rest_in c) out) out).answer ≡ TableFull steps → TableFullCase s vs ps question budget lent steps
     unfolding delivered
     case_of out steps l true d b h e = let z : ◌≡◌ {A = ℕ} 0 1 = cc in absurd (omega arith)
@@ -140,14 +141,15 @@ module _ (s : ℕ) (vs ps question : List ℕ) (budget : ℕ) (lent : Lent) wher
   unfolding search_of
   table_full_exactly out steps = (forth (look_of s vs ps question) refl, back)
     where
-      answer : Look → Searched
+      answer : Result Inside Refusal → Searched
       answer look = if_inside look lent out (λ from to. between_of f (t from to).trip budget lent out)
 
-      forth : (look : Look) → look_of s vs ps question ≡ look → (answer look).answer ≡ TableFull steps → TableFullCase s vs ps question budget lent steps
-      forth (Inside from to) l e =
-          case_of from to out steps l (eqb (places_in lent.work) 0) refl (eqb from to) refl
-          (ap (λ (y : Searched). y.answer) (sym (inside_is from to out)) ∙ e)
-      forth (Refused r) l e = let z : ◌≡◌ {A = ℕ} 0 1 = cc in absurd (omega arith)
+      forth : (look : Result Inside Refusal) → look_of s vs ps question ≡ look → (answer look).answer ≡ TableFull steps
+          → TableFullCase s vs ps question budget lent steps
+      forth (Ok i) l e =
+          case_of i.start i.goal out steps l (eqb (places_in lent.work) 0) refl (eqb i.start i.goal) refl
+          (ap (λ (y : Searched). y.answer) (sym (inside_is i.start i.goal out)) ∙ e)
+      forth (Err r) l e = let z : ◌≡◌ {A = ℕ} 0 1 = cc in absurd (omega arith)
 
       back : TableFullCase s vs ps question budget lent steps → (answer (look_of s vs ps question)).answer ≡ TableFull steps
       back h =
@@ -156,7 +158,7 @@ module _ (s : ℕ) (vs ps question : List ℕ) (budget : ℕ) (lent : Lent) wher
           let is = run_is p q h.begins in
           let finish = ap (λ (y : Close). y.finish) is ∙ within_crowded f (t p q) budget (x p q) h.crowds in
           let counted = ap (λ (y : Close). y.search.state.counts.pops) is ∙ h.counted in
-          ap (λ (look : Look). (answer look).answer) h.inside ∙ ap (λ (y : Searched). y.answer) (inside_is p q out)
+          ap (λ (look : Result Inside Refusal). (answer look).answer) h.inside ∙ ap (λ (y : Searched). y.answer) (inside_is p q out)
           ∙ ap (λ (a : Bool). (by p q a (eqb p q) (told p q (rest_in (c p q)) out) out).answer) h.places
           ∙ ap (λ (b : Bool). (by p q false b (told p q (rest_in (c p q)) out) out).answer) h.apart
           ∙ full_is p q out steps finish counted
@@ -187,12 +189,13 @@ module _ (s : ℕ) (vs ps question : List ℕ) (budget : ℕ) (lent : Lent) wher
           by from to (eqb (places_in lent.work) 0) (eqb from to)
           (told from to (rest_of (searched_before f (t from to) budget lent.work) lent.table) out) out
 
-      go : (look : Look) → look_of s vs ps question ≡ look
+      go : (look : Result Inside Refusal) → look_of s vs ps question ≡ look
           → if_inside look lent out (λ from to. between_of f (t from to).trip budget lent out) ≡ if_inside look lent out around
-      go (Inside from to) l =
-          inside_is from to out
-          ∙ ap (λ (y : Searched). by from to (eqb (places_in lent.work) 0) (eqb from to) y out) (before_is from to out (quiet from to l))
-      go (Refused r) l = refl
+      go (Ok i) l =
+          inside_is i.start i.goal out
+          ∙ ap (λ (y : Searched). by i.start i.goal (eqb (places_in lent.work) 0) (eqb i.start i.goal) y out)
+          (before_is i.start i.goal out (quiet i.start i.goal l))
+      go (Err r) l = refl
 
   -- where a search was, its counted steps are its pops
   pops_few : (from to : ℕ) (out : List ℕ) → answer_steps (told from to (rest_in (c from to)) out).answer ≤ 513
@@ -209,7 +212,7 @@ module _ (s : ℕ) (vs ps question : List ℕ) (budget : ℕ) (lent : Lent) wher
       before : ℕ → ℕ → Searched
       before from to = told from to (rest_of (searched_before f (t from to) budget lent.work) lent.table) out
 
-      same : (from to : ℕ) → look_of s vs ps question ≡ Inside from to → (a : Bool) → eqb (places_in lent.work) 0 ≡ a → (b : Bool)
+      same : (from to : ℕ) → look_of s vs ps question ≡ Ok (record { start = from; goal = to }) → (a : Bool) → eqb (places_in lent.work) 0 ≡ a → (b : Bool)
           → answer_steps (by from to a b (told from to (rest_in (c from to)) out) out).answer ≤ 513
           → by from to a b (told from to (rest_in (c from to)) out) out ≡ by from to a b (before from to) out
       same from to l true d b h = refl
@@ -223,12 +226,12 @@ module _ (s : ℕ) (vs ps question : List ℕ) (budget : ℕ) (lent : Lent) wher
           (few_pops_calm (plan_of s vs ps) vs ps (t from to) (its_ground s vs ps question some few l) (its_start s vs ps question some few l) w
           (room w d) (at_least_one w d) budget lent.table) (pops_few from to out h))
 
-      go : (look : Look) → look_of s vs ps question ≡ look
+      go : (look : Result Inside Refusal) → look_of s vs ps question ≡ look
           → answer_steps (if_inside look lent out (λ from to. between_of f (t from to).trip budget lent out)).answer ≤ 513
           → if_inside look lent out (λ from to. between_of f (t from to).trip budget lent out)
           ≡ if_inside look lent out (λ from to. by from to (eqb (places_in lent.work) 0) (eqb from to) (before from to) out)
-      go (Inside from to) l h =
-          inside_is from to out
-          ∙ same from to l (eqb (places_in lent.work) 0) refl (eqb from to)
-          (rw (ap (λ (y : Searched). answer_steps y.answer) (sym (inside_is from to out))) h)
-      go (Refused r) l h = refl
+      go (Ok i) l h =
+          inside_is i.start i.goal out
+          ∙ same i.start i.goal l (eqb (places_in lent.work) 0) refl (eqb i.start i.goal)
+          (rw (ap (λ (y : Searched). answer_steps y.answer) (sym (inside_is i.start i.goal out))) h)
+      go (Err r) l h = refl

@@ -2,17 +2,13 @@
 -- the contracts of the doors cite: `search_of` (search/specs/Whole), `verdict_of` (judge/specs/Verdict), `readout_of` and `written_of` (readout/specs/Readout),
 -- whatever the bytes of a floor, of a question and of a route, the lent buffers and the budget. `slots` is how many corners a polygon's record holds: the
 -- doors have 8. Definitions only. Assumes nothing.
-use Rattle.std.specs.Prelude.{ℕ, ◌+◌, ◌-◌, ◌*◌, ◌/◌, ◌≤◌, ◌<◌, ◌≡◌, true, false, List, ◌↔◌, eqb, Float, length, take}
+use Rattle.std.specs.Prelude.{ℕ, ◌+◌, ◌-◌, ◌*◌, ◌/◌, ◌≤◌, ◌<◌, ◌≡◌, true, false, List, Ok, Err, ◌↔◌, eqb, Float, length, take}
 use Rattle.word.specs.Word.{Bytes}
 use Rattle.stored.specs.Stored.{floor_of, question_of}
 use Rattle.floor.specs.declared.Refusal.{Refusal}
-use Rattle.floor.specs.declared.Look.TheVariants.{Inside, Refused}
 use Rattle.floor.specs.Look.{look_of}
-use Rattle.route.specs.declared.Judged.TheVariants.{Accepted}
 use Rattle.route.specs.Record.{record_at, end_bytes}
-use Rattle.judge.specs.declared.Verdict.TheVariants.{Read}
 use Rattle.judge.specs.Verdict.{verdict_of}
-use Rattle.readout.specs.declared.Readout.TheVariants.{Listed}
 use Rattle.readout.specs.Points.{length_of}
 use Rattle.readout.specs.Readout.{route_points, readout_of, written_of, readout_number}
 use Rattle.places.specs.Layout.{places_in}
@@ -73,14 +69,14 @@ module _ (slots : ℕ) (vertices polygons question : List ℕ) (budget : ℕ) (l
   abbrev pub FoundIsAccepted : Type 0
   FoundIsAccepted =
       0 < slots → slots ≤ 16 → Bytes polygons → (out : List ℕ) (steps n : ℕ) → (search out).answer ≡ Found steps n
-      → verdict_of slots vertices polygons question (take n (search out).out) ≡ Read Accepted
+      → verdict_of slots vertices polygons question (take n (search out).out) ≡ Ok tt
 
   -- And where the read-out of those bytes lists points, the last record has their number, and their length.
   abbrev pub FoundIsListed : Type 0
   FoundIsListed =
       0 < slots → slots ≤ 16 → Bytes polygons → (out : List ℕ) (steps n : ℕ) → (search out).answer ≡ Found steps n
       → let file = take n (search out).out in
-      (room : List Float) (count : ℕ) → readout_of slots vertices polygons question file room ≡ Listed count
+      (room : List Float) (count : ℕ) → readout_of slots vertices polygons question file room ≡ Ok count
       → record_at file (length file / 32 - 1)
       ≡ end_bytes count (question_of question).goal (length_of (question_of question).start (route_points (floor_of slots vertices polygons) question file))
 
@@ -124,18 +120,18 @@ module _ (slots : ℕ) (vertices polygons question : List ℕ) (budget : ℕ) (l
   -- "Up to 10 the work buffers stay too", and the table with them: where floor or question is refused,
   abbrev pub RefusedLeavesBuffers : Type 0
   RefusedLeavesBuffers =
-      (out : List ℕ) (r : Refusal) → look_of slots vertices polygons question ≡ Refused r → search out ≡ searched_of (Turned r) lent out
+      (out : List ℕ) (r : Refusal) → look_of slots vertices polygons question ≡ Err r → search out ≡ searched_of (Turned r) lent out
 
   -- where there is no place,
   abbrev pub NoPlacesLeavesBuffers : Type 0
   NoPlacesLeavesBuffers =
-      (out : List ℕ) (from to : ℕ) → look_of slots vertices polygons question ≡ Inside from to → eqb (places_in lent.work) 0 ≡ true
+      (out : List ℕ) (from to : ℕ) → look_of slots vertices polygons question ≡ Ok (record { start = from; goal = to }) → eqb (places_in lent.work) 0 ≡ true
       → search out ≡ searched_of NoPlaces lent out
 
   -- and "Start and goal in one polygon: found, no steps, work buffers untouched." The table too.
   abbrev pub OnePolygonLeavesBuffers : Type 0
   OnePolygonLeavesBuffers =
-      (out : List ℕ) (from to : ℕ) → look_of slots vertices polygons question ≡ Inside from to → eqb (places_in lent.work) 0 ≡ false
+      (out : List ℕ) (from to : ℕ) → look_of slots vertices polygons question ≡ Ok (record { start = from; goal = to }) → eqb (places_in lent.work) 0 ≡ false
       → eqb from to ≡ true
       → (search out).lent ≡ lent
 

@@ -1,9 +1,8 @@
 -- The promises on a search that stalls (document 02, M-130), each as one sentence; `never_14`, `table_full_exactly`, `never_stalls_is_before` and
 -- `few_steps_are_before`, in proofs/Stalls, prove them. They are said over `search_of` (search/specs/Whole), which the doors' contracts cite. Definitions only.
 -- Assumes nothing.
-use Rattle.std.specs.Prelude.{ℕ, ◌≤◌, ◌<◌, ◌≡◌, false, cond, List, ◌↔◌, eqb}
+use Rattle.std.specs.Prelude.{ℕ, ◌≤◌, ◌<◌, ◌≡◌, false, cond, List, Ok, ◌↔◌, eqb}
 use Rattle.stored.specs.Stored.{Floor, floor_of, question_of}
-use Rattle.floor.specs.declared.Look.TheVariants.{Inside}
 use Rattle.floor.specs.Look.{look_of}
 use Rattle.steps.specs.World.{trip_of}
 use Rattle.places.specs.Layout.{places_in}
@@ -42,7 +41,7 @@ module _ (slots : ℕ) (vertices polygons question : List ℕ) (budget : ℕ) (l
   pub record TableFullCase (steps : ℕ) : Type 0 where
     pub from : ℕ
     pub to : ℕ
-    pub inside : look_of slots vertices polygons question ≡ Inside from to
+    pub inside : look_of slots vertices polygons question ≡ Ok (record { start = from; goal = to })
     pub places : eqb (places_in lent.work) 0 ≡ false
     pub apart : eqb from to ≡ false
     pub begins : (outset floor (task_between from to) lent.work).full ≡ false
@@ -68,7 +67,7 @@ module _ (slots : ℕ) (vertices polygons question : List ℕ) (budget : ℕ) (l
   -- it never records: when it has ended it does not, and recording never ends
   abbrev pub NeverStalls : Type 0
   NeverStalls =
-      (from to : ℕ) → look_of slots vertices polygons question ≡ Inside from to
+      (from to : ℕ) → look_of slots vertices polygons question ≡ Ok (record { start = from; goal = to })
       → (searched_from floor (task_between from to) budget lent.work lent.table).search.stall.recording ≡ false
 
   -- A search that never stalls is the search of before, to the word: the same answer, the same work buffers, the same output, and the table untouched.

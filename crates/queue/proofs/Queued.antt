@@ -3,14 +3,15 @@
 use Prim.Native.Nat.{ℕ, ◌*◌, ◌≤◌, ◌<◌}
 use native.Mathlib.Omega.{arith}
 use mathlib.Core.Path.{◌≡◌, refl, sym, ap, ◌∙◌}
-use mathlib.Core.Bool.{Bool, true, false}
+use mathlib.Core.Bool.{Bool, true, false, cond}
 use mathlib.Core.List.{List, ◌++◌}
-use borrow.Author.Tests.{eq-eqb, ne_eqb}
+use borrow.Author.Tests.{eq-eqb, ne_eqb, eqb-true, eqb-false}
 use lib.Dec.{eqb}
 use lib.Ieee.{Float}
 use lib.ListN.{length, get_or, drop, replicate, length-append, length-drop, length-replicate}
 use lib.Seq.{drop_at}
-use Rattle.queue.specs.Queue.{none, own_of, put, least_of, NoNan, Empty, Tree, tree_words}
+use Rattle.std.specs.Prelude.{Some, None}
+use Rattle.queue.specs.Queue.{none, own_of, place_named, put, least_of, NoNan, Empty, Tree, tree_words}
 use Rattle.queue.specs.Words.{queued_in, cleared, queue_of}
 use Rattle.queue.proofs.Words.{words_length, tree_is, is_tree, tree_same, words_same}
 use Rattle.queue.proofs.Winner.{root_is_least}
@@ -25,6 +26,22 @@ put_same q i b = rw (eq-eqb i i refl)
 pub put_other : (q : ℕ → Bool) (i : ℕ) (b : Bool) (j : ℕ) → (j ≡ i → ⊥) → put q i b j ≡ q j
 unfolding put
 put_other q i b j d = rw (ne_eqb j i d)
+
+-- ---- the place that a word stands for
+
+pub named_none : (w : ℕ) → place_named w ≡ None → w ≡ none
+named_none w e = go (eqb w none) refl e
+  where
+    go : (b : Bool) → eqb w none ≡ b → cond b None (Some w) ≡ None → w ≡ none
+    go true h e = eqb-true w none h
+    go false h e = cc
+
+pub named_some : (w i : ℕ) → place_named w ≡ Some i → (i ≡ w) × (i ≡ none → ⊥)
+named_some w i e = go (eqb w none) refl e
+  where
+    go : (b : Bool) → eqb w none ≡ b → cond b None (Some w) ≡ Some i → (i ≡ w) × (i ≡ none → ⊥)
+    go true h e = cc
+    go false h e = let same : i ≡ w = cc in (same, λ g. eqb-false w none h (sym same ∙ g))
 
 -- ---- which places are queued, read off the words
 

@@ -1,6 +1,6 @@
 -- The queue: of the n places some are queued, each has its f, and the least of them is popped. And the tree that finds it: words of which each is
 -- the better of two others. Definitions only. Assumes nothing.
-use Rattle.std.specs.Prelude.{ℕ, zero, suc, ◌+◌, ◌-◌, ◌*◌, ◌≤◌, ◌<◌, ◌≡◌, Bool, true, false, not, ◌&&◌, ◌||◌, cond, List, T, leb, ltb, eqb, length, get_or, Float}
+use Rattle.std.specs.Prelude.{ℕ, zero, suc, ◌+◌, ◌-◌, ◌*◌, ◌≤◌, ◌<◌, ◌≡◌, Bool, true, false, not, ◌&&◌, ◌||◌, cond, Option, Some, None, List, T, leb, ltb, eqb, length, get_or, Float}
 use Rattle.std.specs.Float.Ieee.{is_nan, lt, eq}
 use Rattle.counts.specs.Counts.{table}
 
@@ -21,6 +21,10 @@ lone_of n a b = cond (leb n a) b a
 -- the better of two words; one that is none of the n places, as `none`, loses
 unfoldable pub better : (ℕ → Float) → ℕ → ℕ → ℕ → ℕ
 better f n a b = cond (leb n a) b (cond (leb n b) a (cond (before f a b) a b))
+
+-- the place that a word stands for, if it stands for one
+abbrev pub place_named : ℕ → Option ℕ
+place_named w = cond (eqb w none) None (Some w)
 
 -- ---- the queue: a set of places
 

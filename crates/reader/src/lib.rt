@@ -1,52 +1,17 @@
 #![tactic(auto)]
 // A reader of a route file: the caller's route bytes and the number of a record in them. It walks them one record at a time.
-// Each function only takes the reader apart and calls one on the bytes and the number; whoever has plain bytes calls
-// `begins_with`.
+// Whoever has plain bytes calls `begins_with`.
 
 ghost use Rattle.std.specs.Prelude.{◌≡◌};
-ghost use Rattle.reader.specs.Reading.{is_record, records_from, number_after, first_of, next_of};
+ghost use Rattle.reader.specs.Reading.{is_record, records_from, first_of, next_of};
 
-use records::Record;
+use records::{Record, RouteRecord};
 
 // The caller's route bytes, and the number of the record at which the reader stands.
 #[derive(Clone, Copy)]
 pub struct Reader<'a> {
     route: &'a [u8],
     number: usize,
-}
-
-// How many whole records there are from this number on.
-#[tactic(auto, unfolding(crate::specs::Reading::records_from, route::specs::Record::records))]
-fn records_from(route: &[u8], number: usize) -> usize
-    ensures { result ≡ records_from route.now number }
-{
-    let count = route.len() / Record::BYTES;
-    if number < count {
-        return count - number;
-    }
-    0
-}
-
-// Whether the record with this number is this one, byte for byte. Where no record is left, none is.
-#[tactic(auto, unfolding(crate::specs::Reading::is_record))]
-fn is_record(route: &[u8], number: usize, sought: Record) -> bool
-    ensures { result ≡ is_record route.now number sought }
-{
-    if records_from(route, number) == 0 {
-        return false;
-    }
-    sought.is_at(route, number)
-}
-
-// The number after this one. Where no record is left it stays, so that it never wraps.
-#[tactic(auto, using(crate::proofs::Passed::one_here, crate::proofs::Passed::goes_on, crate::proofs::Passed::stays))]
-fn number_after(route: &[u8], number: usize) -> usize
-    ensures { result ≡ number_after route.now number }
-{
-    if records_from(route, number) == 0 {
-        return number;
-    }
-    number + 1
 }
 
 impl<'a> Reader<'a> {
@@ -57,28 +22,40 @@ impl<'a> Reader<'a> {
         Reader { route, number: 0 }
     }
 
-    // Whether the record here is this one, byte for byte.
-    pub fn is_at(self, sought: Record) -> bool
-        ensures { result ≡ is_record self.entry.route.now self.entry.number sought }
-    {
-        is_record(self.route, self.number, sought)
-    }
-
-    // How many records there are from here on.
+    // How many whole records there are from here on.
+    #[tactic(auto, unfolding(crate::specs::Reading::records_from, route::specs::Record::records))]
     pub fn left(self) -> usize
         ensures { result ≡ records_from self.entry.route.now self.entry.number }
     {
-        records_from(self.route, self.number)
+        (self.route.len() / Record::BYTES).saturating_sub(self.number)
     }
 
-    // The reader at the next record. Behind the last one it stays.
+    // Whether the record here is this one, byte for byte. Where no record is left, none is.
+    #[tactic(auto, unfolding(crate::specs::Reading::is_record))]
+    pub fn is_at(self, sought: Record) -> bool
+        ensures { result ≡ is_record self.entry.route.now self.entry.number sought }
+    {
+        if self.left() == 0 {
+            return false;
+        }
+        let here = RouteRecord {
+            route: self.route,
+            number: self.number,
+        };
+        here.is(sought)
+    }
+
+    // The reader at the next record. Behind the last one it stays, so that its number never wraps.
+    #[tactic(auto, using(crate::proofs::Passed::one_here, crate::proofs::Passed::goes_on, crate::proofs::Passed::stays))]
     pub fn next(self) -> Reader<'a>
         ensures { result ≡ next_of self.entry }
     {
-        let number = number_after(self.route, self.number);
+        if self.left() == 0 {
+            return self;
+        }
         Reader {
             route: self.route,
-            number,
+            number: self.number + 1,
         }
     }
 }

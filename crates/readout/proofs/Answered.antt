@@ -7,75 +7,66 @@ use lib.Ieee.{Float}
 use lib.ListN.{length}
 use lib.Seq.{sets}
 use Rattle.point.specs.declared.Point.{Point}
+use Rattle.std.specs.Prelude.{Result, Ok, Err}
 use Rattle.floor.specs.declared.Refusal.{Refusal}
-use Rattle.floor.specs.declared.Look.{Look}
-use Rattle.floor.specs.declared.Look.TheVariants.{Inside, Refused as LookRefused}
+use Rattle.floor.specs.declared.Inside.{Inside}
 use Rattle.stored.specs.Stored.{floor_of, floor_in, question_of}
 use Rattle.floor.specs.Look.{look_of}
 use Rattle.floor.proofs.Asking.{Looked}
-use Rattle.route.specs.declared.Judged.{Judged}
-use Rattle.route.specs.declared.Judged.TheVariants.{Accepted, Length, NotSeed, NotStep, NotEnd}
+use Rattle.route.specs.declared.Fault.{Fault}
 use Rattle.route.specs.World.{World}
 use Rattle.route.specs.Judge.{judge_of}
 use Rattle.steps.specs.declared.Node.{Node}
 use Rattle.steps.specs.declared.Trip.{Trip}
 use Rattle.steps.specs.World.{trip_of, world_in, world_of}
-use Rattle.judge.specs.declared.Verdict.{Verdict}
-use Rattle.judge.specs.declared.Verdict.TheVariants.{Refused, Read}
-use Rattle.readout.specs.declared.Readout.{Readout}
-use Rattle.readout.specs.declared.Readout.TheVariants.{Refused as Unread, Short, Listed}
-use Rattle.judge.specs.Verdict.{verdict_of}
+use Rattle.judge.specs.declared.Unaccepted.{Unaccepted}
+use Rattle.judge.specs.declared.Unaccepted.TheVariants.{Refused, Untrue}
+use Rattle.readout.specs.declared.Unlisted.{Unlisted}
+use Rattle.readout.specs.declared.Unlisted.TheVariants.{Unaccepted as NotAccepted, Short}
+use Rattle.judge.specs.Verdict.{read_as, verdict_of}
 use Rattle.readout.specs.Points.{points_of}
 use Rattle.readout.specs.Readout.{floats_of, listed, listing, answer_if, out_if, route_points, readout_of, written_of}
 use Rattle.judge.proofs.Looking.{judges_inside, judges_refused}
 
 module _ (points : List Point) (out : List Float) (count : ℕ) (e : count ≡ length points) where
-  pub short_is : length out < count * 2 → (Short ≡ listed points out) × (out ≡ listing points out)
+  pub short_is : length out < count * 2 → (Err Short ≡ listed points out) × (out ≡ listing points out)
   unfolding listed listing
   short_is h =
       let l : length out < length points * 2 = subst (λ (n : ℕ). length out < n * 2) e h in
       (rw (lt-ltb (length out) (length points * 2) l), rw (lt-ltb (length out) (length points * 2) l))
 
   pub listed_is : (out' : List Float) → count * 2 ≤ length out → out' ≡ sets out 0 (floats_of points)
-      → (Listed count ≡ listed points out) × (out' ≡ listing points out)
+      → (Ok count ≡ listed points out) × (out' ≡ listing points out)
   unfolding listed listing
   listed_is out' h d =
       let l : length points * 2 ≤ length out = subst (λ (n : ℕ). n * 2 ≤ length out) e h in
-      (rw (le-ltb (length out) (length points * 2) l) (ap Listed e), rw (le-ltb (length out) (length points * 2) l) d)
+      (rw (le-ltb (length out) (length points * 2) l) (ap Ok e), rw (le-ltb (length out) (length points * 2) l) d)
 
 -- ---- by what the judge says
 
-module _ (x : Judged) (points : List Point) (out : List Float) where
-  pub read_accepted : (r : Readout) (out' : List Float) → x ≡ Accepted → (r ≡ listed points out) × (out' ≡ listing points out)
-      → (r ≡ answer_if (Read x) points out) × (out' ≡ out_if (Read x) points out)
+module _ (x : Result Unit Fault) (points : List Point) (out : List Float) where
+  pub read_accepted : (r : Result ℕ Unlisted) (out' : List Float) → x ≡ Ok tt → (r ≡ listed points out) × (out' ≡ listing points out)
+      → (r ≡ answer_if (read_as x) points out) × (out' ≡ out_if (read_as x) points out)
   read_accepted r out' e h = (rw e h.0, rw e h.1)
 
-  pub read_length : x ≡ Length → (Unread (Read Length) ≡ answer_if (Read x) points out) × (out ≡ out_if (Read x) points out)
-  read_length e = (rw e, rw e)
-
-  pub read_seed : x ≡ NotSeed → (Unread (Read NotSeed) ≡ answer_if (Read x) points out) × (out ≡ out_if (Read x) points out)
-  read_seed e = (rw e, rw e)
-
-  pub read_step : (i : ℕ) → x ≡ NotStep i → (Unread (Read (NotStep i)) ≡ answer_if (Read x) points out) × (out ≡ out_if (Read x) points out)
-  read_step i e = (rw e, rw e)
-
-  pub read_end : (i : ℕ) → x ≡ NotEnd i → (Unread (Read (NotEnd i)) ≡ answer_if (Read x) points out) × (out ≡ out_if (Read x) points out)
-  read_end i e = (rw e, rw e)
+  pub read_untrue : (fault : Fault) → x ≡ Err fault
+      → (Err (NotAccepted (Untrue fault)) ≡ answer_if (read_as x) points out) × (out ≡ out_if (read_as x) points out)
+  read_untrue fault e = (rw e, rw e)
 
 -- ---- behind the door
 
-module _ (slots : ℕ) (vs ps question route : List ℕ) (out : List Float) {look : Look} (looked : look ≡ look_of slots vs ps question) where
-  pub reads_refused : {r : Refusal} → look ≡ LookRefused r
-      → (Unread (Refused r) ≡ readout_of slots vs ps question route out) × (out ≡ written_of slots vs ps question route out)
+module _ (slots : ℕ) (vs ps question route : List ℕ) (out : List Float) {look : Result Inside Refusal} (looked : look ≡ look_of slots vs ps question) where
+  pub reads_refused : {r : Refusal} → look ≡ Err r
+      → (Err (NotAccepted (Refused r)) ≡ readout_of slots vs ps question route out) × (out ≡ written_of slots vs ps question route out)
   unfolding readout_of written_of
   reads_refused e = let v = judges_refused slots vs ps question route looked e in (rw (← v), rw (← v))
 
-  module _ {plan : List ℕ} {from to : ℕ} (e : look ≡ Inside from to) (h : Looked slots plan vs ps question from to) {trip : Trip}
-      (t : trip ≡ trip_of (question_of question) from to) where
+  module _ {plan : List ℕ} {inside : Inside} (e : look ≡ Ok inside) (h : Looked slots plan vs ps question inside.start inside.goal) {trip : Trip}
+      (t : trip ≡ trip_of (question_of question) inside.start inside.goal) where
     abbrev w : World Node
     w = world_in (floor_in plan vs ps) trip
 
-    same_verdict : Read (judge_of w route) ≡ verdict_of slots vs ps question route
+    same_verdict : read_as (judge_of w route) ≡ verdict_of slots vs ps question route
     same_verdict = judges_inside slots vs ps question route looked e h.slots_are t refl
 
     same_world : w ≡ world_of (floor_in plan vs ps) (question_of question)
@@ -90,12 +81,12 @@ module _ (slots : ℕ) (vs ps question route : List ℕ) (out : List Float) {loo
         ap₂ (λ (x : World Node) (y : Point). points_of x y route) same_world (ap (λ (x : Trip). x.goal) t)
         ∙ ap (λ (k : ℕ). points_of (world_of (floor_of k vs ps) (question_of question)) (question_of question).goal route) h.slots_are
 
-    pub reads_inside : {r : Readout} {out' : List Float}
-        → (r ≡ answer_if (Read (judge_of w route)) (points_of w trip.goal route) out)
-        × (out' ≡ out_if (Read (judge_of w route)) (points_of w trip.goal route) out)
+    pub reads_inside : {r : Result ℕ Unlisted} {out' : List Float}
+        → (r ≡ answer_if (read_as (judge_of w route)) (points_of w trip.goal route) out)
+        × (out' ≡ out_if (read_as (judge_of w route)) (points_of w trip.goal route) out)
         → (r ≡ readout_of slots vs ps question route out) × (out' ≡ written_of slots vs ps question route out)
     unfolding readout_of written_of
     reads_inside j = (
-      j.0 ∙ ap₂ (λ (v : Verdict) (x : List Point). answer_if v x out) same_verdict same_points,
-      j.1 ∙ ap₂ (λ (v : Verdict) (x : List Point). out_if v x out) same_verdict same_points,
+      j.0 ∙ ap₂ (λ (v : Result Unit Unaccepted) (x : List Point). answer_if v x out) same_verdict same_points,
+      j.1 ∙ ap₂ (λ (v : Result Unit Unaccepted) (x : List Point). out_if v x out) same_verdict same_points,
     )

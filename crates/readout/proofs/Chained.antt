@@ -11,8 +11,8 @@ use lib.Seq.{sets}
 use Rattle.point.specs.declared.Point.{Point}
 use Rattle.point.specs.Point.{same_of}
 use Rattle.route.specs.declared.Step.{Step}
-use Rattle.route.specs.declared.Sought.TheVariants.{Found}
-use Rattle.route.specs.declared.Judged.TheVariants.{Accepted, NotStep}
+use Rattle.std.specs.Prelude.{Some, Ok, Err}
+use Rattle.route.specs.declared.Fault.TheVariants.{NotStep}
 use Rattle.route.specs.World.{World}
 use Rattle.route.specs.Record.{record_at}
 use Rattle.route.specs.Judge.{length_right, same_bytes, find_step, judge_of}
@@ -25,27 +25,27 @@ use Rattle.readout.proofs.Placed.{put_more, put_long}
 
 -- ---- accepted: the length is right, and record 0 is the seed
 
-pub accepted_length : {Node : Type 0} (w : World Node) (file : List ℕ) → judge_of w file ≡ Accepted → length_right file ≡ true
+pub accepted_length : {Node : Type 0} (w : World Node) (file : List ℕ) → judge_of w file ≡ Ok tt → length_right file ≡ true
 accepted_length w file e = go (length_right file) refl
   where
     go : (b : Bool) → length_right file ≡ b → b ≡ true
     go true h = refl
     go false h = let z : ◌≡◌ {A = ℕ} 0 1 = cc (begins_length w file h) in absurd (omega arith)
 
-pub accepted_seed : {Node : Type 0} (w : World Node) (file : List ℕ) → judge_of w file ≡ Accepted → same_bytes (record_at file 0) w.seed_bytes ≡ true
+pub accepted_seed : {Node : Type 0} (w : World Node) (file : List ℕ) → judge_of w file ≡ Ok tt → same_bytes (record_at file 0) w.seed_bytes ≡ true
 accepted_seed w file e = go (same_bytes (record_at file 0) w.seed_bytes) refl
   where
     go : (b : Bool) → same_bytes (record_at file 0) w.seed_bytes ≡ b → b ≡ true
     go true h = refl
     go false h = let z : ◌≡◌ {A = ℕ} 0 1 = cc (begins_wrong w file (accepted_length w file e) h) in absurd (omega arith)
 
-pub accepted_stops_not : {Node : Type 0} (w : World Node) (file : List ℕ) (i : ℕ) → judge_of w file ≡ Accepted → judge_of w file ≡ NotStep i → ⊥
+pub accepted_stops_not : {Node : Type 0} (w : World Node) (file : List ℕ) (i : ℕ) → judge_of w file ≡ Ok tt → judge_of w file ≡ Err (NotStep i) → ⊥
 accepted_stops_not w file i e d = let z : ◌≡◌ {A = ℕ} 0 1 = cc in omega arith
 
 -- ---- one step of the chain
 
 module _ (w : World Node) (file : List ℕ) (node : Node) (i last : ℕ) where
-  pub chain_step : (t : Step) → i < last → find_step (w.steps_from node) (record_at file i) ≡ Found t
+  pub chain_step : (t : Step) → i < last → find_step (w.steps_from node) (record_at file i) ≡ Some t
       → chain_from w file node i (last - i) ≡ w.enter node t ∷ chain_from w file (w.enter node t) (i + 1) (last - (i + 1))
   unfolding chain_from
   chain_step t l e =

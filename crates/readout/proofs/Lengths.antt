@@ -9,8 +9,7 @@ use lib.Ieee.Bits.{of_bits-fits}
 use lib.Ieee.Fits.{add-fits}
 use Rattle.word.specs.Word.{Bytes}
 use Rattle.point.specs.declared.Point.{Point}
-use Rattle.helpers.specs.declared.Turn.{Turn}
-use Rattle.helpers.specs.declared.Turn.TheVariants.{Around, Straight}
+use Rattle.std.specs.Prelude.{Option, Some, None, Ok}
 use Rattle.point.specs.Point.{point_of, from_bits_of, same_of, plus_of, distance_of}
 use Rattle.helpers.specs.Helpers.{turning_point_of}
 use Rattle.cut.specs.declared.SuccessorType.{SuccessorType}
@@ -18,9 +17,6 @@ use Rattle.cut.specs.declared.SuccessorType.TheVariants.{LeftNonObservable, Obse
 use Rattle.stored.specs.Stored.{Floor, floor_of, question_of, vertex_in}
 use Rattle.edges.specs.Where.{polygon_of}
 use Rattle.route.specs.declared.Step.{Step}
-use Rattle.route.specs.declared.Sought.{Sought}
-use Rattle.route.specs.declared.Sought.TheVariants.{Found, Missing}
-use Rattle.route.specs.declared.Judged.TheVariants.{Accepted}
 use Rattle.route.specs.Step.{HeldPoint}
 use Rattle.route.specs.Record.{record_at, records, end_bytes}
 use Rattle.route.specs.World.{World, TrueRoute}
@@ -58,12 +54,12 @@ module _ (goal : Point) (node : Node) where
   unfolding ending_of last_points length_from
   last_sum = go node.seed (turning_point_of node.root goal node.interval)
     where
-      round : (t : Turn) → (last_leg goal node t).length ≡ length_from node.length node.root (going_round t goal)
-      round (Around p) = refl
-      round Straight = refl
+      round : (t : Option Point) → (last_leg goal node t).length ≡ length_from node.length node.root (going_round t goal)
+      round (Some p) = refl
+      round None = refl
 
-      go : (b : Bool) (t : Turn)
-          → (cond b (last_leg goal node Straight) (last_leg goal node t)).length
+      go : (b : Bool) (t : Option Point)
+          → (cond b (last_leg goal node None) (last_leg goal node t)).length
           ≡ length_from node.length node.root (cond b (goal ∷ []) (going_round t goal))
       go true t = refl
       go false t = round t
@@ -124,13 +120,13 @@ module _ (f : Floor) (trip : Trip) (file : List ℕ) where
   chain_sum (suc left) node i h =
       go (find_step (steps_from f trip.to node) (record_at file i)) (λ t. chain_sum left (into node t) (i + 1) (root_held f.vertices node t h))
     where
-      go : (x : Sought)
+      go : (x : Option Step)
           → ((t : Step) → let next = into node t in let rest = chain_from w file next (i + 1) left in
           (ending_of goal (last_of next rest)).length ≡ length_from next.length next.root (points_along goal next rest))
           → (ending_of goal (last_of node (onto x (λ t. into node t ∷ chain_from w file (into node t) (i + 1) left)))).length
           ≡ length_from node.length node.root (points_along goal node (onto x (λ t. into node t ∷ chain_from w file (into node t) (i + 1) left)))
-      go (Found t) below = below t ∙ step_sums f.vertices goal node t (chain_from w file (into node t) (i + 1) left) h
-      go Missing below = last_sum goal node ∙ ap (length_from node.length node.root) (sym (along_end goal node))
+      go (Some t) below = below t ∙ step_sums f.vertices goal node t (chain_from w file (into node t) (i + 1) left) h
+      go None below = last_sum goal node ∙ ap (length_from node.length node.root) (sym (along_end goal node))
 
   seed_held : HeldPoint trip.start → HeldPoint seed.root
   unfolding seed_node
@@ -155,7 +151,7 @@ unfolding question_of
 start_held question = point_held _ _
 
 -- Of an accepted file the last record carries the number of the route's points and their length.
-pub end_carries : (s : ℕ) (vs ps question file : List ℕ) → judge_of (world_of (floor_of s vs ps) (question_of question)) file ≡ Accepted
+pub end_carries : (s : ℕ) (vs ps question file : List ℕ) → judge_of (world_of (floor_of s vs ps) (question_of question)) file ≡ Ok tt
     → EndCarries (question_of question) (points_of (world_of (floor_of s vs ps) (question_of question)) (question_of question).goal file) file
 unfolding world_of
 end_carries s vs ps question file e =

@@ -14,14 +14,13 @@ use lib.ListN.{length}
 use lib.Seq.{sets}
 use Rattle.float.proofs.Tests.{and_true}
 use Rattle.word.specs.Word.{Bytes}
-use Rattle.plan.specs.Plan.{slots_in, polygon_count_in}
+use Rattle.plan.specs.Plan.{polygon_count_in}
 use Rattle.point.specs.declared.Point.{Point}
 use Rattle.point.specs.Point.{same_of}
 use Rattle.stored.specs.Stored.{vertices_of, floor_in}
 use Rattle.stored.proofs.Records.{vertex_count_lem}
 use Rattle.edges.specs.Ground.{Ground}
-use Rattle.route.specs.declared.Sought.TheVariants.{Found}
-use Rattle.route.specs.declared.Judged.TheVariants.{Accepted}
+use Rattle.std.specs.Prelude.{Some, Ok}
 use Rattle.route.specs.World.{World}
 use Rattle.route.specs.Record.{record_at, records}
 use Rattle.route.specs.Judge.{find_step, judge_of}
@@ -31,7 +30,7 @@ use Rattle.steps.specs.declared.Node.{Node}
 use Rattle.steps.specs.declared.Trip.{Trip}
 use Rattle.steps.specs.Steps.{steps_from, enter}
 use Rattle.steps.specs.World.{world_in}
-use Rattle.seek.proofs.Reading.{is_read}
+use Rattle.seek.proofs.Reading.{read_standing}
 use Rattle.judge.proofs.Following.{Follows, seed_points, few_points, follows_begin, follows_on, follows_stops}
 use Rattle.readout.specs.Points.{chain_from, chain_of, last_points, points_along, points_of}
 use Rattle.readout.specs.ReadOff.{read_from, leads, seed_of, points_read, Readable}
@@ -41,8 +40,8 @@ use Rattle.readout.proofs.Ended.{count_is_written}
 
 -- ---- an accepted file can be read off
 
-module _ {plan vs ps : List ℕ} (g : Ground plan vs ps) (trip : Trip) (file : List ℕ) (floor_bytes : Bytes ps) (file-bytes : Bytes file)
-    (listed : trip.from < polygon_count_in plan) (accepted : judge_of (world_in (floor_in plan vs ps) trip) file ≡ Accepted) where
+module _ {plan vs ps : List ℕ} (g : Ground plan vs ps) (trip : Trip) (file : List ℕ) (file-bytes : Bytes file)
+    (listed : trip.from < polygon_count_in plan) (accepted : judge_of (world_in (floor_in plan vs ps) trip) file ≡ Ok tt) where
   abbrev vertices : List Point
   vertices = vertices_of vs
 
@@ -54,9 +53,9 @@ module _ {plan vs ps : List ℕ} (g : Ground plan vs ps) (trip : Trip) (file : L
 
   -- each middle record is a step, and is read as that step
   found : {node : Node} {i : ℕ} → Follows plan vs ps trip file last node i → i < last
-      → find_step (steps_from (floor_in plan vs ps) trip.to node) (record_at file i) ≡ Found (step_in file i)
+      → find_step (steps_from (floor_in plan vs ps) trip.to node) (record_at file i) ≡ Some (step_in file i)
   found {node} {i} h l =
-      is_read file file-bytes i (omega (arith, h.inside, l)) (slots_in plan) vs ps floor_bytes trip.to node
+      read_standing file file-bytes i (omega (arith, h.inside, l)) g trip.to node h.stands
       (λ e. accepted_stops_not w file i accepted (follows_stops g trip file h l e))
 
   on : {node : Node} {i : ℕ} → Follows plan vs ps trip file last node i → i < last

@@ -8,9 +8,8 @@ use mathlib.Core.List.{List, [], ◌∷◌}
 use lib.Ieee.{Float}
 use lib.ListN.{length, set, length-set}
 use lib.Seq.{sets}
+use Rattle.std.specs.Prelude.{Option, Some, None}
 use Rattle.point.specs.declared.Point.{Point}
-use Rattle.helpers.specs.declared.Turn.{Turn}
-use Rattle.helpers.specs.declared.Turn.TheVariants.{Around, Straight}
 use Rattle.helpers.specs.Helpers.{turning_point_of}
 use Rattle.steps.specs.declared.Node.{Node}
 use Rattle.readout.specs.Points.{last_points}
@@ -48,13 +47,13 @@ module _ (goal : Point) (node : Node) where
   unfolding last_points
   last_of_seed e = rw e
 
-  pub last_around : (turn : Turn) (p : Point) → node.seed ≡ false → turn ≡ turning_point_of node.root goal node.interval
-      → turn ≡ Around p → last_points goal node ≡ p ∷ goal ∷ []
+  pub last_around : (turn : Option Point) (p : Point) → node.seed ≡ false → turn ≡ turning_point_of node.root goal node.interval
+      → turn ≡ Some p → last_points goal node ≡ p ∷ goal ∷ []
   unfolding last_points
   last_around turn p e t h = rw (e, sym t ∙ h)
 
-  pub last_straight : (turn : Turn) → node.seed ≡ false → turn ≡ turning_point_of node.root goal node.interval
-      → turn ≡ Straight → last_points goal node ≡ goal ∷ []
+  pub last_straight : (turn : Option Point) → node.seed ≡ false → turn ≡ turning_point_of node.root goal node.interval
+      → turn ≡ None → last_points goal node ≡ goal ∷ []
   unfolding last_points
   last_straight turn e t h = rw (e, sym t ∙ h)
 

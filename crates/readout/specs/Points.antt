@@ -1,17 +1,13 @@
 -- Document 01, "Points: the new root at each place of the parent chain, oldest first, where the root changed by !=; then turning_point if any; then
 -- the goal. With no step in the chain the goal is the only point. Length is the f32 sum in that order from 0.0." Definitions only. Assumes nothing.
-use Rattle.std.specs.Prelude.{ℕ, zero, suc, ◌+◌, ◌-◌, ◌/◌, ◌≡◌, cond, List, [], ◌∷◌, Float, length}
+use Rattle.std.specs.Prelude.{ℕ, zero, suc, ◌+◌, ◌-◌, ◌/◌, ◌≡◌, cond, Option, Some, None, List, [], ◌∷◌, Float, length}
 use Rattle.std.specs.Float.{binary32}
 use Rattle.std.specs.Float.Ieee.{add}
 use Rattle.point.specs.declared.Point.{Point}
-use Rattle.helpers.specs.declared.Turn.{Turn}
-use Rattle.helpers.specs.declared.Turn.TheVariants.{Around, Straight}
 use Rattle.point.specs.Point.{zero as zero_float, same_of, distance_of}
 use Rattle.helpers.specs.Helpers.{turning_point_of}
 use Rattle.route.specs.declared.Step.{Step}
-use Rattle.route.specs.declared.Sought.{Sought}
-use Rattle.route.specs.declared.Sought.TheVariants.{Found, Missing}
-use Rattle.stored.specs.Stored.{Question}
+use Rattle.stored.specs.declared.Question.{Question}
 use Rattle.route.specs.Record.{record_at, records, end_bytes}
 use Rattle.route.specs.World.{World}
 use Rattle.route.specs.Judge.{find_step}
@@ -19,9 +15,9 @@ use Rattle.steps.specs.declared.Node.{Node}
 
 -- ---- the parent chain
 
-abbrev pub onto : Sought → (Step → List Node) → List Node
-onto (Found step) nodes = nodes step
-onto Missing nodes = []
+abbrev pub onto : Option Step → (Step → List Node) → List Node
+onto (Some step) nodes = nodes step
+onto None nodes = []
 
 module _ (w : World Node) (file : List ℕ) where
   -- the nodes that the records from i on lead to out of this one, with this many middle records left before the last one
@@ -36,9 +32,9 @@ module _ (w : World Node) (file : List ℕ) where
 
 -- ---- its points
 
-abbrev pub going_round : Turn → Point → List Point
-going_round (Around point) goal = point ∷ goal ∷ []
-going_round Straight goal = goal ∷ []
+abbrev pub going_round : Option Point → Point → List Point
+going_round (Some point) goal = point ∷ goal ∷ []
+going_round None goal = goal ∷ []
 
 -- "then turning_point if any; then the goal. With no step in the chain the goal is the only point."
 unfoldable pub last_points : Point → Node → List Point

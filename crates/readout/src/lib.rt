@@ -1,39 +1,55 @@
 #![tactic(auto)]
 // The read-out: judges, then lists the points of an accepted route, walking its records a second time.
 
-ghost use Rattle.std.specs.Prelude.{◌≡◌, ◌+◌, ◌*◌, ◌≤◌, ◌<◌, false, length};
+ghost use Rattle.std.specs.Prelude.{◌≡◌, ◌+◌, ◌*◌, ◌≤◌, ◌<◌, false, length, Result};
 ghost use Rattle.std.proofs.lemmas.List.Edits.{sets};
 ghost use Rattle.point.specs.Point.{same_of};
 ghost use Rattle.plan.specs.Plan.{polygon_count_in};
-ghost use Rattle.stored.specs.Stored.{vertices_of, floor_in};
-ghost use Rattle.edges.specs.Ground.{Ground};
+ghost use Rattle.stored.specs.Stored.{vertices_of};
+ghost use Rattle.edges.specs.AcceptedFloor.{the_floor};
 ghost use Rattle.route.specs.Judge.{judge_of};
 ghost use Rattle.steps.specs.World.{world_in};
-ghost use Rattle.judge.specs.declared.Verdict.TheVariants.{Read};
+ghost use Rattle.judge.specs.Verdict.{read_as};
+ghost use Rattle.judge.specs.declared.Unaccepted.TheVariants.{Refused, Untrue};
+ghost use Rattle.readout.specs.declared.Unlisted.TheVariants.{Unaccepted as NotAccepted};
 ghost use Rattle.readout.specs.Points.{last_points, points_of};
 ghost use Rattle.readout.specs.ReadOff.{points_read, Readable};
 ghost use Rattle.readout.specs.Readout.{floats_of, put_point, put_root, listed, listing, answer_if, out_if};
-ghost use Rattle.readout.specs.Readout.{readout_of, written_of, readout_told};
+ghost use Rattle.readout.specs.Readout.{readout_of, written_of, unlisted_told, readout_told};
 
-use floor::Look;
-use helpers::Turn;
-use judge::{Verdict, judge_route};
-use plan::PLAN;
+use edges::AcceptedFloor;
+use floor::Refusal;
+use judge::{Unaccepted, judge_route};
+use plan::Plan;
 use point::Point;
-use records::Record;
-use route::Judged;
+use records::{Record, RouteRecord};
+use route::Fault;
 use steps::{Node, Trip};
 use told::Told;
 
-// What a read-out answers.
+// Why no points are listed.
 #[derive(Clone, Copy)]
-pub enum Readout {
+pub enum Unlisted {
     // 2 to 9, or 20 to 23: what the judge says, where it does not accept.
-    Refused(Verdict),
+    Unaccepted(Unaccepted),
     // 13: the slice has no room for the points, two floats each.
     Short,
-    // 0: so many points are listed.
-    Listed(usize),
+}
+
+impl From<Refusal> for Unlisted {
+    ghost from_gives = { λ refusal unlisted. unlisted ≡ NotAccepted (Refused refusal) };
+
+    fn from(refusal: Refusal) -> Unlisted {
+        Unlisted::Unaccepted(Unaccepted::Refused(refusal))
+    }
+}
+
+impl From<Fault> for Unlisted {
+    ghost from_gives = { λ fault unlisted. unlisted ≡ NotAccepted (Untrue fault) };
+
+    fn from(fault: Fault) -> Unlisted {
+        Unlisted::Unaccepted(Unaccepted::Untrue(fault))
+    }
 }
 
 // Point k, x then y.
@@ -47,13 +63,13 @@ fn put_point(points: &mut [f32], k: usize, point: Point)
 }
 
 // The new root, if it is another one.
-#[tactic(auto, unfolding(crate::specs::Readout::put_root))]
+#[tactic(auto, unfolding(point::specs::Point::same_of, crate::specs::Readout::put_root))]
 fn put_root(points: &mut [f32], node: Node, next: Node)
     requires { same_of next.root node.root ≡ false → node.points * 2 + 2 ≤ length points.old }
     ensures { points.new ≡ put_root points.old node next }
 {
     let root = next.root;
-    if root.same(node.root) {
+    if root == node.root {
         return;
     }
     put_point(points, node.points as usize, root);
@@ -71,13 +87,12 @@ fn put_last(points: &mut [f32], node: Node, goal: Point)
     }
     let root = node.root;
     let interval = node.interval;
-    let turn = helpers::turning_point(root, goal, interval);
-    match turn {
-        Turn::Around(point) => {
+    match helpers::turning_point(root, goal, interval) {
+        Some(point) => {
             put_point(points, k, point);
             put_point(points, k + 1, goal);
         }
-        Turn::Straight => put_point(points, k, goal),
+        None => put_point(points, k, goal),
     }
 }
 
@@ -92,21 +107,24 @@ fn list_points(vertices: &[u8], trip: Trip, route: &[u8], points: &mut [f32])
 {
     let last = route.len() / Record::BYTES - 1;
     let mut node = Node::seed(trip.start, trip.from);
-    let mut i = 1;
-    while i < last {
-        let step = records::step_in(route, i);
+    for i in 1..last {
+        let step = RouteRecord { route, number: i }.step();
         let next = node.enter(vertices, step);
         put_root(points, node, next);
         node = next;
-        i += 1;
     }
     put_last(points, node, trip.goal);
 }
 
-// Lists the points of a route that was accepted, unless the slice is too short. Its end record says how many they are: the judge has
-// compared it.
+// Lists the points of a route that was accepted, unless the slice is too short, and says how many they are. Its end record has that
+// number: the judge has compared it.
 #[tactic(auto, unfolding(route::specs::Record::records))]
-fn list_route(vertices: &[u8], trip: Trip, route: &[u8], points: &mut [f32]) -> Readout
+fn list_route(
+    vertices: &[u8],
+    trip: Trip,
+    route: &[u8],
+    points: &mut [f32],
+) -> Result<usize, Unlisted>
     requires { Readable (vertices_of vertices.now) trip route.now }
     ensures result_value { let route-points = points_read (vertices_of vertices.now) trip route.now in
         result ≡ listed route-points points.old }
@@ -114,74 +132,82 @@ fn list_route(vertices: &[u8], trip: Trip, route: &[u8], points: &mut [f32]) -> 
         points.new ≡ listing route-points points.old }
 {
     let last = route.len() / Record::BYTES - 1;
-    let count = records::points_at(route, last) as usize;
+    let end = RouteRecord {
+        route,
+        number: last,
+    };
+    let count = end.points() as usize;
     if points.len() < count * 2 {
-        return Readout::Short;
+        return Err(Unlisted::Short);
     }
     list_points(vertices, trip, route, points);
-    Readout::Listed(count)
+    Ok(count)
 }
 
 // Judges the route of this trip, then lists its points.
 fn read_route(
-    vertices: &[u8],
-    polygons: &[u8],
-    plan: &[u32; PLAN],
+    floor: &AcceptedFloor,
     trip: Trip,
     route: &[u8],
     points: &mut [f32],
-) -> Readout
-    requires { Ground plan.now vertices.now polygons.now × (trip.from < polygon_count_in plan.now) }
-    ensures result_value { let w = world_in (floor_in plan.now vertices.now polygons.now) trip in
+) -> Result<usize, Unlisted>
+    requires { trip.from < polygon_count_in floor.now.plan.now }
+    ensures result_value { let w = world_in (the_floor floor.now) trip in
         let file = route.now in
-        result ≡ answer_if (Read (judge_of w file)) (points_of w trip.goal file) points.old }
-    ensures points_after { let w = world_in (floor_in plan.now vertices.now polygons.now) trip in
+        result ≡ answer_if (read_as (judge_of w file)) (points_of w trip.goal file) points.old }
+    ensures points_after { let w = world_in (the_floor floor.now) trip in
         let file = route.now in
-        points.new ≡ out_if (Read (judge_of w file)) (points_of w trip.goal file) points.old }
+        points.new ≡ out_if (read_as (judge_of w file)) (points_of w trip.goal file) points.old }
 {
-    match judge_route(vertices, polygons, plan, trip, route) {
-        Judged::Accepted => list_route(vertices, trip, route, points),
-        Judged::Length => Readout::Refused(Verdict::Read(Judged::Length)),
-        Judged::NotSeed => Readout::Refused(Verdict::Read(Judged::NotSeed)),
-        Judged::NotStep(i) => Readout::Refused(Verdict::Read(Judged::NotStep(i))),
-        Judged::NotEnd(i) => Readout::Refused(Verdict::Read(Judged::NotEnd(i))),
-    }
+    judge_route(floor, trip, route)?;
+    list_route(floor.vertices, trip, route, points)
 }
 
-// Judges, then lists the points of an accepted route into the slice: x and y of each. Exactly their places change, and nothing
-// where the answer is another than 0.
+// Judges, then lists the points of an accepted route into the slice, x and y of each, and says how many they are. Exactly their places
+// change, and nothing where the answer is another than 0.
 pub fn read_out(
     vertices: &[u8],
     polygons: &[u8],
     question: &[u8],
     route: &[u8],
     points: &mut [f32],
-) -> Readout
+) -> Result<usize, Unlisted>
     ensures value { result ≡ readout_of 8 vertices.now polygons.now question.now route.now
         points.old }
     ensures points_after { let before = points.old in
         points.new ≡ written_of 8 vertices.now polygons.now question.now route.now before }
 {
-    let mut plan = [0u32; PLAN];
-    match floor::look_with(vertices, polygons, question, &mut plan) {
-        Look::Inside(from, to) => {
-            let trip = Trip::of(question, from as u32, to as u32);
-            read_route(vertices, polygons, &plan, trip, route, points)
+    let mut plan = Plan::new();
+    let inside = floor::look_with(vertices, polygons, question, &mut plan)?;
+    let floor = AcceptedFloor {
+        vertices,
+        polygons,
+        plan: &plan,
+    };
+    let trip = Trip::of(question, inside.start as u32, inside.goal as u32);
+    read_route(&floor, trip, route, points)
+}
+
+// The number in document 01's table, and the record at fault where there is one.
+impl From<Unlisted> for Told {
+    ghost from_gives = { λ unlisted told. told ≡ unlisted_told unlisted };
+
+    #[tactic(auto, unfolding(crate::specs::Readout::unlisted_told))]
+    fn from(unlisted: Unlisted) -> Told {
+        match unlisted {
+            Unlisted::Unaccepted(unaccepted) => Told::from(unaccepted),
+            Unlisted::Short => Told::Alone(13),
         }
-        Look::Refused(refusal) => Readout::Refused(Verdict::Refused(refusal)),
     }
 }
 
-impl Readout {
-    // The number in document 01's table, and the record at fault or how many points are listed.
-    #[tactic(auto, unfolding(crate::specs::Readout::readout_told))]
-    pub fn told(self) -> Told
-        ensures { result ≡ readout_told self }
-    {
-        match self {
-            Readout::Refused(verdict) => verdict.told(),
-            Readout::Short => Told::Alone(13),
-            Readout::Listed(count) => Told::WithCount(0, count),
-        }
+// The same of an answer: 0 and how many points are listed, where they are.
+#[tactic(auto, unfolding(crate::specs::Readout::readout_told))]
+pub fn told(readout: Result<usize, Unlisted>) -> Told
+    ensures { result ≡ readout_told readout }
+{
+    match readout {
+        Ok(count) => Told::WithCount(0, count),
+        Err(unlisted) => Told::from(unlisted),
     }
 }

@@ -16,14 +16,13 @@ use Rattle.counts.proofs.Laws.{every_at}
 use Rattle.word.specs.Word.{Bytes, word_at}
 use Rattle.point.specs.declared.Point.{Point}
 use Rattle.cut.specs.declared.SuccessorType.{SuccessorType}
-use Rattle.cut.specs.declared.SuccessorType.TheVariants.{LeftNonObservable, Observable, RightNonObservable}
 use Rattle.route.specs.declared.Step.{Step}
-use Rattle.route.specs.Step.{kind_number, HeldPoint, Held}
+use Rattle.route.specs.Step.{kind_number, kind_of, HeldPoint, Held}
 use Rattle.route.specs.Record.{bits, step_words, step_bytes, record_at}
 use Rattle.route.specs.Judge.{same_bytes}
-use Rattle.route.proofs.Bytes.{kind_below, bits_below}
+use Rattle.route.proofs.Bytes.{kind_below, kind_back, bits_below}
 use Rattle.route.proofs.Find.{same_of}
-use Rattle.records.specs.Records.{step_record, kind_in, point_in, step_in}
+use Rattle.records.specs.Records.{step_record, point_in, step_in}
 use Rattle.records.proofs.Stored.{stands, record_stands, step_record_bytes}
 
 -- ---- a step's words
@@ -48,12 +47,6 @@ unfolding step_record step_words
 step_stands s h file b i inside = record_stands (step_record s) file i b inside refl (held_words s h) ∙ ap (same_bytes (record_at file i)) (step_record_bytes s)
 
 -- ---- read
-
-kind_is_read : (k : SuccessorType) → kind_in (kind_number k) ≡ k
-unfolding kind_in kind_number
-kind_is_read LeftNonObservable = refl
-kind_is_read Observable = refl
-kind_is_read RightNonObservable = refl
 
 float_is_read : (x : Float) → T (fits binary32 x) → (w : ℕ) → w ≡ bits x → of_bits binary32 w ≡ x
 float_is_read x h w e = ap (of_bits binary32) e ∙ of_bits-to_bits binary32 x h
@@ -98,7 +91,7 @@ module _ (s : Step) (h : Held s) (file : List ℕ) (b : Bytes file) (i : ℕ) (i
         second = word_at file (i * 32 + 12);
         interval = (point_in file (i * 32 + 16), point_in file (i * 32 + 24));
       })
-      (ap kind_in first_place ∙ kind_is_read s.kind) (word_is 1 (omega arith))
+      (ap kind_of first_place ∙ kind_back s.kind) (word_is 1 (omega arith))
       ∙ ap₂ (λ (x y : ℕ). record {
         kind = s.kind;
         polygon = s.polygon;

@@ -1,13 +1,12 @@
 -- The records of the route file as the code has them, by value: eight words. Rests on the words of `route`. Definitions only. Assumes nothing.
-use Rattle.std.specs.Prelude.{ℕ, ◌+◌, ◌*◌, Bool, ◌&&◌, cond, List, eqb, Float}
+use Rattle.std.specs.Prelude.{ℕ, ◌+◌, ◌*◌, Bool, ◌&&◌, List, eqb, Float}
 use Rattle.std.specs.Float.{binary32}
 use Rattle.std.specs.Float.Ieee.{of_bits}
 use Rattle.word.specs.Word.{word_at}
 use Rattle.point.specs.declared.Point.{Point}
 use Rattle.point.specs.declared.Segment.{Segment}
-use Rattle.cut.specs.declared.SuccessorType.{SuccessorType}
-use Rattle.cut.specs.declared.SuccessorType.TheVariants.{LeftNonObservable, Observable, RightNonObservable}
 use Rattle.route.specs.declared.Step.{Step}
+use Rattle.route.specs.Step.{kind_of}
 use Rattle.route.specs.Record.{bits, words_bytes, seed_words, step_words, end_words}
 use Rattle.records.specs.declared.Record.{Record}
 
@@ -57,17 +56,13 @@ interval_stands interval file i = point_stands interval.0 file (right_at i) && p
 
 -- ---- a step read off a file
 
--- the kind that a number stands for; 4, and what stands for none, is read as LeftNonObservable
-unfoldable pub kind_in : ℕ → SuccessorType
-kind_in n = cond (eqb n 2) Observable (cond (eqb n 3) RightNonObservable LeftNonObservable)
-
 unfoldable pub point_in : List ℕ → ℕ → Point
 point_in file at = record { x = of_bits binary32 (word_at file at); y = of_bits binary32 (word_at file (at + 4)) }
 
 -- the step that record i is, where it is one (proofs/Read, step_is_read)
 unfoldable pub step_in : List ℕ → ℕ → Step
 step_in file i = record {
-  kind = kind_in (kind_word file i);
+  kind = kind_of (kind_word file i);
   polygon = polygon_word file i;
   first = first_word file i;
   second = second_word file i;

@@ -2,14 +2,15 @@
 // The records by value: made, compared with the bytes of a lent file, and written into lent bytes. Nothing is allocated.
 
 ghost use Rattle.std.specs.Prelude.{◌≡◌, ◌+◌, ◌*◌, ◌≤◌, length};
+ghost use Rattle.word.specs.Word.{word_at};
 ghost use Rattle.route.specs.Record.{record_at, put_record};
 ghost use Rattle.route.specs.Judge.{same_bytes, length_right};
-ghost use Rattle.records.specs.Records.{record_bytes, seed_record, step_record, end_record, kind_in, kind_word, polygon_word};
+ghost use Rattle.records.specs.Records.{record_bytes, seed_record, step_record, end_record, kind_word, polygon_word};
 ghost use Rattle.records.specs.Records.{first_word, second_word, points_word, point_in, point_stands, interval_stands, step_in};
 
 use cut::SuccessorType;
 use point::{Point, Segment};
-use route::{Step, kind_number};
+use route::{Step, kind_number, kind_of};
 
 // A record of the route file: eight words, 32 bytes little-endian.
 #[derive(Clone, Copy)]
@@ -17,7 +18,9 @@ pub struct Record {
     pub words: [u32; 8],
 }
 
-// Where the words of a step's record stand behind its kind: the polygon entered, the edge's two vertices, the two ends of the interval.
+// Where the words of a step's record stand: its kind, the polygon entered, the edge's two vertices, the two ends of the interval.
+const KIND: usize = 0;
+
 const POLYGON: usize = 4;
 
 const FIRST: usize = 8;
@@ -98,138 +101,134 @@ impl Record {
         }
     }
 
-    // Whether the record with this number in a route's bytes is this one, byte for byte.
-    #[tactic(auto, unfolding(counts::specs::Counts::every))]
-    pub fn is_at(self, route: &[u8], i: usize) -> bool
-        requires { (i + 1) * 32 ≤ length route.now }
-        ensures { result ≡ same_bytes (record_at route.now i) (record_bytes self) }
-    {
-        let words = self.words;
-        let mut j = 0;
-        while j < 8 {
-            if word::read(route, i * Record::BYTES + j * 4) != words[j] {
-                return false;
-            }
-            j += 1;
-        }
-        true
-    }
-
     // Stores the record's bytes as the one with this number.
     #[tactic(auto, unfolding(route::specs::Record::words_bytes, route::specs::Record::put_record, crate::specs::Records::record_bytes))]
     pub fn write(self, out: &mut [u8], i: usize)
         requires { (i + 1) * 32 ≤ length out.old }
         ensures { out.new ≡ put_record out.old i (record_bytes self) }
     {
-        let words = self.words;
-        let mut k = 0;
-        while k < 8 {
-            word::write(out, i * Record::BYTES + k * 4, words[k]);
-            k += 1;
+        for k in 0..8 {
+            word::write(out, i * Record::BYTES + k * 4, self.words[k]);
         }
     }
 }
 
-// The kind that a number stands for. Whoever reads it has to know that it stands for one.
-#[tactic(auto, unfolding(crate::specs::Records::kind_in))]
-fn kind_in(number: u32) -> SuccessorType
-    ensures { result ≡ kind_in number }
-{
-    if number == 2 {
-        return SuccessorType::Observable;
+// A record in a lent file: the route's bytes, and the number of a record that stands in them.
+#[derive(Clone, Copy)]
+pub struct RouteRecord<'a> {
+    pub route: &'a [u8],
+    pub number: usize,
+    ghost inside: { (number + 1) * 32 ≤ length route.now },
+}
+
+impl<'a> RouteRecord<'a> {
+    // The route's bytes.
+    pub fn bytes(self) -> &'a [u8]
+        ensures { result ≡ self.entry.route }
+    {
+        self.route
     }
-    if number == 3 {
-        return SuccessorType::RightNonObservable;
+
+    // The word that stands so many bytes behind the record's first.
+    fn word(self, at: usize) -> u32
+        requires { at + 4 ≤ 32 }
+        ensures { result ≡ word_at self.entry.route.now (self.entry.number * 32 + at) }
+    {
+        word::read(self.route, self.number * Record::BYTES + at)
     }
-    SuccessorType::LeftNonObservable
-}
 
-// The point whose two coordinates stand here.
-#[tactic(auto, unfolding(crate::specs::Records::point_in))]
-fn point_in(route: &[u8], at: usize) -> Point
-    requires { at + 8 ≤ length route.now }
-    ensures { result ≡ point_in route.now at }
-{
-    let x = float::from_bits(word::read(route, at));
-    let y = float::from_bits(word::read(route, at + 4));
-    Point { x, y }
-}
+    // The point whose two coordinates stand there.
+    #[tactic(auto, unfolding(crate::specs::Records::point_in))]
+    fn point(self, at: usize) -> Point
+        requires { at + 8 ≤ 32 }
+        ensures { result ≡ point_in self.entry.route.now (self.entry.number * 32 + at) }
+    {
+        let x = float::from_bits(self.word(at));
+        let y = float::from_bits(self.word(at + 4));
+        Point { x, y }
+    }
 
-// The number of the kind of the step that is record i.
-pub fn kind_at(route: &[u8], i: usize) -> u32
-    requires { (i + 1) * 32 ≤ length route.now }
-    ensures { result ≡ kind_word route.now i }
-{
-    word::read(route, i * Record::BYTES)
-}
+    // The number of the kind, where the record is a step.
+    pub fn kind(self) -> u32
+        ensures { result ≡ kind_word self.entry.route.now self.entry.number }
+    {
+        self.word(KIND)
+    }
 
-// The polygon that it enters.
-pub fn polygon_at(route: &[u8], i: usize) -> u32
-    requires { (i + 1) * 32 ≤ length route.now }
-    ensures { result ≡ polygon_word route.now i }
-{
-    word::read(route, i * Record::BYTES + POLYGON)
-}
+    // The polygon that it enters.
+    pub fn polygon(self) -> u32
+        ensures { result ≡ polygon_word self.entry.route.now self.entry.number }
+    {
+        self.word(POLYGON)
+    }
 
-// The first vertex of the edge that it leads over.
-pub fn first_at(route: &[u8], i: usize) -> u32
-    requires { (i + 1) * 32 ≤ length route.now }
-    ensures { result ≡ first_word route.now i }
-{
-    word::read(route, i * Record::BYTES + FIRST)
-}
+    // The first vertex of the edge that it leads over.
+    pub fn first(self) -> u32
+        ensures { result ≡ first_word self.entry.route.now self.entry.number }
+    {
+        self.word(FIRST)
+    }
 
-// The second one.
-pub fn second_at(route: &[u8], i: usize) -> u32
-    requires { (i + 1) * 32 ≤ length route.now }
-    ensures { result ≡ second_word route.now i }
-{
-    word::read(route, i * Record::BYTES + SECOND)
-}
+    // The second one.
+    pub fn second(self) -> u32
+        ensures { result ≡ second_word self.entry.route.now self.entry.number }
+    {
+        self.word(SECOND)
+    }
 
-// How many points the route has, where record i is its end.
-pub fn points_at(route: &[u8], i: usize) -> u32
-    requires { (i + 1) * 32 ≤ length route.now }
-    ensures { result ≡ points_word route.now i }
-{
-    word::read(route, i * Record::BYTES + POINTS)
-}
+    // How many points the route has, where the record is its end.
+    pub fn points(self) -> u32
+        ensures { result ≡ points_word self.entry.route.now self.entry.number }
+    {
+        self.word(POINTS)
+    }
 
-// Whether a point's two words stand here.
-#[tactic(auto, unfolding(crate::specs::Records::point_stands))]
-fn is_point(point: Point, route: &[u8], at: usize) -> bool
-    requires { at + 8 ≤ length route.now }
-    ensures { result ≡ point_stands point route.now at }
-{
-    word::read(route, at) == float::to_bits(point.x)
-        && word::read(route, at + 4) == float::to_bits(point.y)
-}
+    // Whether a point's two words stand there.
+    #[tactic(auto, unfolding(crate::specs::Records::point_stands))]
+    fn is_point(self, point: Point, at: usize) -> bool
+        requires { at + 8 ≤ 32 }
+        ensures { result ≡ point_stands point self.entry.route.now (self.entry.number * 32 + at) }
+    {
+        self.word(at) == float::to_bits(point.x) && self.word(at + 4) == float::to_bits(point.y)
+    }
 
-// Whether the step that is record i has this interval.
-#[tactic(auto, unfolding(crate::specs::Records::interval_stands))]
-pub fn has_interval(route: &[u8], i: usize, interval: Segment) -> bool
-    requires { (i + 1) * 32 ≤ length route.now }
-    ensures { result ≡ interval_stands interval route.now i }
-{
-    is_point(interval.0, route, i * Record::BYTES + RIGHT)
-        && is_point(interval.1, route, i * Record::BYTES + LEFT)
-}
+    // Whether the step that it is has this interval.
+    #[tactic(auto, unfolding(crate::specs::Records::interval_stands))]
+    pub fn has_interval(self, interval: Segment) -> bool
+        ensures { result ≡ interval_stands interval self.entry.route.now self.entry.number }
+    {
+        self.is_point(interval.0, RIGHT) && self.is_point(interval.1, LEFT)
+    }
 
-// The step that a record is, where it is one: so a step need not be handed on beside its record.
-#[tactic(auto, unfolding(crate::specs::Records::step_in))]
-pub fn step_in(route: &[u8], i: usize) -> Step
-    requires { (i + 1) * 32 ≤ length route.now }
-    ensures { result ≡ step_in route.now i }
-{
-    let kind = kind_in(kind_at(route, i));
-    let right = point_in(route, i * Record::BYTES + RIGHT);
-    let left = point_in(route, i * Record::BYTES + LEFT);
-    Step {
-        kind,
-        polygon: polygon_at(route, i),
-        first: first_at(route, i),
-        second: second_at(route, i),
-        interval: Segment(right, left),
+    // The step that it is, where it is one: so a step need not be handed on beside its record.
+    #[tactic(auto, unfolding(crate::specs::Records::step_in))]
+    pub fn step(self) -> Step
+        ensures { result ≡ step_in self.entry.route.now self.entry.number }
+    {
+        let kind = kind_of(self.kind());
+        let right = self.point(RIGHT);
+        let left = self.point(LEFT);
+        Step {
+            kind,
+            polygon: self.polygon(),
+            first: self.first(),
+            second: self.second(),
+            interval: Segment(right, left),
+        }
+    }
+
+    // Whether it is this record, byte for byte.
+    #[tactic(auto, unfolding(counts::specs::Counts::every))]
+    pub fn is(self, sought: Record) -> bool
+        ensures { result ≡ same_bytes (record_at self.entry.route.now self.entry.number) (record_bytes sought) }
+    {
+        let route = self.bytes();
+        for j in 0..8 {
+            if word::read(route, self.number * Record::BYTES + j * 4) != sought.words[j] {
+                return false;
+            }
+        }
+        true
     }
 }
 

@@ -31,11 +31,9 @@ fn pattern_root(bits: u32) -> u32
     requires { (0 < bits) × (bits < 0x7F800000) }
     ensures { of_bits binary32 result ≡ rounded_root (square_units (of_bits binary32 bits)) }
 {
-    let number = scaled(bits);
-    let digits = number.digits;
-    let places = number.places;
-    let q = nearest(kept(digits, places), guess(digits, places));
-    (places - 23) / 2 * 0x80_0000 + q
+    let number = Number::scaled(bits);
+    let q = nearest(number.kept(), number.guess());
+    (number.places - 23) / 2 * 0x80_0000 + q
 }
 
 // A number as digits * 2 ^ places.
@@ -45,50 +43,52 @@ struct Number {
     places: u32,
 }
 
-// The number whose root is sought, in square units, with its leading 24 digits apart. A subnormal's digits are moved up.
-fn scaled(bits: u32) -> Number
-    requires { (0 < bits) × (bits < 0x7F800000) }
-    ensures { Scale (square_units (of_bits binary32 bits)) result.digits result.places }
-{
-    let field = bits / 0x80_0000;
-    let digits = bits % 0x80_0000;
-    if field == 0 {
-        let by = u32::leading_zeros(digits) - 8;
-        return Number {
-            digits: digits << by,
-            places: 149 - by,
-        };
+impl Number {
+    // The number whose root is sought, in square units, with its leading 24 digits apart. A subnormal's digits are moved up.
+    fn scaled(bits: u32) -> Number
+        requires { (0 < bits) × (bits < 0x7F800000) }
+        ensures { Scale (square_units (of_bits binary32 bits)) result.digits result.places }
+    {
+        let field = bits / 0x80_0000;
+        let digits = bits % 0x80_0000;
+        if field == 0 {
+            let by = digits.leading_zeros() - 8;
+            return Number {
+                digits: digits << by,
+                places: 149 - by,
+            };
+        }
+        Number {
+            digits: digits + 0x80_0000,
+            places: field + 148,
+        }
     }
-    Number {
-        digits: digits + 0x80_0000,
-        places: field + 148,
-    }
-}
 
-// What is left of the number once the pairs of digits that the root drops are gone.
-fn kept(digits: u32, places: u32) -> u64
-    requires { (digits < 2 ^ 24) × (23 ≤ places) }
-    ensures { result ≡ left digits places }
-{
-    if places % 2 == 0 {
-        return (digits as u64) * 0x100_0000;
+    // What is left of the number once the pairs of digits that the root drops are gone.
+    fn kept(self) -> u64
+        requires { (self.digits < 2 ^ 24) × (23 ≤ self.places) }
+        ensures { result ≡ left self.digits self.places }
+    {
+        if self.places % 2 == 0 {
+            return u64::from(self.digits) * 0x100_0000;
+        }
+        u64::from(self.digits) * 0x80_0000
     }
-    (digits as u64) * 0x80_0000
-}
 
-// A number near the root, within a few units. Two steps of Newton's from a straight line that is off by 3 in
-// 100 at most. Only its range is proved: the search from it ends at the root wherever it starts.
-fn guess(digits: u32, places: u32) -> u32
-    requires { (2 ^ 23 ≤ digits) × (digits < 2 ^ 24) }
-    ensures { result < 2 ^ 25 }
-{
-    // The digits as an f32 from 1 to 4, whose root, from 1 to 2, has the digits sought.
-    let x = float::from_bits(digits + 0x3F00_0000 + (1 - places % 2) * 0x80_0000);
-    let line = x * 0.34314575 + 0.6862915;
-    let first = 0.5 * (line + x / line);
-    let second = 0.5 * (first + x / first);
-    // The pattern of 1 is 2 ^ 23 here, and that of 2 is 2 ^ 24: a guess just past either end stays near.
-    (float::to_bits(second) % 0x200_0000 + 0x100_0000) % 0x200_0000
+    // A number near the root, within a few units. Two steps of Newton's from a straight line that is off by 3 in
+    // 100 at most. Only its range is proved: the search from it ends at the root wherever it starts.
+    fn guess(self) -> u32
+        requires { (2 ^ 23 ≤ self.digits) × (self.digits < 2 ^ 24) }
+        ensures { result < 2 ^ 25 }
+    {
+        // The digits as an f32 from 1 to 4, whose root, from 1 to 2, has the digits sought.
+        let x = float::from_bits(self.digits + 0x3F00_0000 + (1 - self.places % 2) * 0x80_0000);
+        let line = x * 0.34314575 + 0.6862915;
+        let first = 0.5 * (line + x / line);
+        let second = 0.5 * (first + x / first);
+        // The pattern of 1 is 2 ^ 23 here, and that of 2 is 2 ^ 24: a guess just past either end stays near.
+        (float::to_bits(second) % 0x200_0000 + 0x100_0000) % 0x200_0000
+    }
 }
 
 // The guess, or one beside it that is nearer to the root of n. A guess is seldom off by more; so the search from here mostly has
@@ -109,7 +109,7 @@ fn nearest(n: u64, guess: u32) -> u32
     requires { (0 < n) × (n + 2 ^ 24 ≤ 2 ^ 48) × (guess < 2 ^ 25) }
     ensures { Close n result }
 {
-    let start = nudged(n, guess as u64);
+    let start = nudged(n, u64::from(guess));
     raised(n, lowered(n, start)) as u32
 }
 

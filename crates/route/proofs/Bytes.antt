@@ -1,11 +1,10 @@
 -- Every record is 32 bytes; a step's bytes tell the step; no step's bytes are an end's or a seed's. Rests on the laws of words and of bit patterns.
 -- Assumes nothing.
-use Prim.Native.Nat.{ℕ, ◌+◌, ◌*◌, ◌^◌, ◌<◌}
+use Prim.Native.Nat.{ℕ, ◌*◌, ◌^◌, ◌<◌}
 use native.Mathlib.Omega.{arith}
 use mathlib.Core.Path.{◌≡◌, refl, sym, ap, ap₂, ◌∙◌}
-use mathlib.Core.Bool.{cond}
 use mathlib.Core.List.{List, [], ◌∷◌, ◌++◌}
-use lib.Dec.{T, eqb, lit<}
+use lib.Dec.{T, lit<}
 use lib.Ieee.{Float, binary32, fits, of_bits}
 use lib.Ieee.Bits.{of_bits-to_bits, to_bits-lt}
 use lib.ListN.{length, take, drop, length-append}
@@ -16,7 +15,7 @@ use Rattle.point.specs.declared.Point.{Point}
 use Rattle.cut.specs.declared.SuccessorType.{SuccessorType}
 use Rattle.cut.specs.declared.SuccessorType.TheVariants.{LeftNonObservable, Observable, RightNonObservable}
 use Rattle.route.specs.declared.Step.{Step}
-use Rattle.route.specs.Step.{kind_number, HeldPoint, Held}
+use Rattle.route.specs.Step.{kind_number, kind_of, HeldPoint, Held}
 use Rattle.route.specs.Record.{words_bytes, bits, seed_words, step_words, end_words, seed_bytes, step_bytes, end_bytes}
 
 -- ---- how many bytes
@@ -68,10 +67,8 @@ kind_above LeftNonObservable = lit< tt
 kind_above Observable = lit< tt
 kind_above RightNonObservable = lit< tt
 
-kind_of : ℕ → SuccessorType
-kind_of n = cond (eqb n 2) Observable (cond (eqb n 3) RightNonObservable LeftNonObservable)
-
-kind_back : (k : SuccessorType) → kind_of (kind_number k) ≡ k
+-- a kind's number stands for it
+pub kind_back : (k : SuccessorType) → kind_of (kind_number k) ≡ k
 unfolding kind_of kind_number
 kind_back LeftNonObservable = refl
 kind_back Observable = refl

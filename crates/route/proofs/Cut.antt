@@ -9,9 +9,10 @@ use mathlib.Core.List.{List, ◌++◌}
 use mathlib.Core.Logic.{◌⊎◌, inl, inr}
 use lib.ListN.{length, take}
 use lib.Seq.{take_at, take-take, take-append-le, length-take-le}
+use Rattle.std.specs.Prelude.{Ok, Err}
 use Rattle.float.proofs.Tests.{failed}
 use Rattle.route.specs.declared.Step.{Step}
-use Rattle.route.specs.declared.Judged.TheVariants.{Accepted, Length, NotEnd}
+use Rattle.route.specs.declared.Fault.TheVariants.{Length, NotEnd}
 use Rattle.route.specs.Record.{step_bytes}
 use Rattle.route.specs.World.{World, ◌∈◌, Lawful, Trail, seeded, stepped, TrueRoute}
 use Rattle.route.specs.Judge.{length_right, judge_of}
@@ -72,13 +73,15 @@ module _ {Node : Type 0} {w : World Node} (lawful : Lawful w) where
           wrong = inl (out_of_goal s.node s.step s.out);
         }
 
-    pub cut_is_refused : judge_of w file ≡ Accepted → (judge_of w (take k file) ≡ Length) ⊎ (judge_of w (take k file) ≡ NotEnd (k / 32 - 1))
+    pub cut_is_refused : judge_of w file ≡ Ok tt → (judge_of w (take k file) ≡ Err Length) ⊎ (judge_of w (take k file) ≡ Err (NotEnd (k / 32 - 1)))
     cut_is_refused a = go (length_right (take k file)) refl
       where
-        go : (b : Bool) → length_right (take k file) ≡ b → (judge_of w (take k file) ≡ Length) ⊎ (judge_of w (take k file) ≡ NotEnd (k / 32 - 1))
+        go : (b : Bool) → length_right (take k file) ≡ b
+            → (judge_of w (take k file) ≡ Err Length) ⊎ (judge_of w (take k file) ≡ Err (NotEnd (k / 32 - 1)))
         go false b = inl (begins_length w (take k file) b)
         go true b =
             let long = length_told (take k file) b in
             let n : length (take k file) ≡ k = length-take-le k file (omega arith) in
             let last : long.records - 1 ≡ k / 32 - 1 = omega (arith, long.whole) in
-            inr (judge_says lawful (take k file) (NotEnd (long.records - 1)) (cut_fault ((accepted_exactly lawful file).0 a) long) ∙ ap NotEnd last)
+            inr (judge_says lawful (take k file) (Err (NotEnd (long.records - 1))) (cut_fault ((accepted_exactly lawful file).0 a) long)
+            ∙ ap (λ (x : ℕ). Err (NotEnd x)) last)

@@ -8,17 +8,18 @@ use mathlib.Core.List.{List, [], ◌∷◌, ◌++◌}
 use lib.Dec.{lit<, lit≤}
 use lib.Ieee.{binary32, of_bits, to_bits}
 use lib.Ieee.Bits.{of_bits-fits}
+use Rattle.std.specs.Prelude.{Ok, Err}
 use Rattle.float.proofs.Tests.{untrue}
 use Rattle.word.specs.Word.{bytes_of}
 use Rattle.told.specs.declared.Told.TheVariants.{AtRecord}
 use Rattle.point.specs.declared.Point.{Point}
 use Rattle.cut.specs.declared.SuccessorType.TheVariants.{Observable}
 use Rattle.route.specs.declared.Step.{Step}
-use Rattle.route.specs.declared.Judged.TheVariants.{Accepted, Length, NotSeed, NotStep, NotEnd}
+use Rattle.route.specs.declared.Fault.TheVariants.{Length, NotSeed, NotStep, NotEnd}
 use Rattle.route.specs.Step.{kind_number, HeldPoint, Held}
 use Rattle.route.specs.Record.{records, record_at, words_bytes, seed_words, step_words, end_words, seed_bytes, step_bytes, end_bytes}
 use Rattle.route.specs.World.{World, ◌∈◌, Lawful, seeded, stepped, TrueRoute}
-use Rattle.route.specs.Judge.{same_bytes, length_right, find_step, onwards, judge_end, judge_from, judge_of, judged_told}
+use Rattle.route.specs.Judge.{same_bytes, length_right, find_step, onwards, judge_end, judge_from, judge_of, fault_told, judged_told}
 use Rattle.route.proofs.Bytes.{seed_is_32, end_is_32}
 use Rattle.route.proofs.Verdicts.{accepted_exactly}
 
@@ -120,22 +121,22 @@ route_is_true = record {
   whole = ap₂ ◌++◌ (ap₂ ◌++◌ (sym seed_is) (sym step_is)) (sym end_is);
 }
 
-route_is_accepted : judge_of small (seed_record_lem ++ step_record_lem ++ end_record_lem) ≡ Accepted
+route_is_accepted : judge_of small (seed_record_lem ++ step_record_lem ++ end_record_lem) ≡ Ok tt
 route_is_accepted = (accepted_exactly small_is_lawful (seed_record_lem ++ step_record_lem ++ end_record_lem)).1 route_is_true
 
 -- "Empty route file is 20."
-empty_is_20 : judge_of small [] ≡ Length
+empty_is_20 : judge_of small [] ≡ Err Length
 unfolding judge_of length_right records
 empty_is_20 = refl
 
 -- the other numbers, each with its record
 others :
-    (judge_of small (step_record_lem ++ end_record_lem) ≡ NotSeed)
-    × (judge_of small (seed_record_lem ++ step_record_lem ++ step_record_lem ++ end_record_lem) ≡ NotStep 2)
-    × (judge_of small (seed_record_lem ++ end_record_lem) ≡ NotEnd 1)
-    × (judge_of small (seed_record_lem ++ step_record_lem) ≡ NotEnd 1)
-    × (judge_of small (seed_record_lem ++ step_record_lem ++ seed_record_lem) ≡ NotEnd 2)
-    × (judged_told (NotEnd 2) ≡ AtRecord 23 2)
-unfolding judge_of judge_from judge_end judged_told length_right records record_at same_bytes find_step onwards small steps_out only point seed_record_lem
-    step_record_lem end_record_lem seed_bytes seed_words step_bytes step_words end_bytes end_words words_bytes bytes_of kind_number to_bits of_bits
+    (judge_of small (step_record_lem ++ end_record_lem) ≡ Err NotSeed)
+    × (judge_of small (seed_record_lem ++ step_record_lem ++ step_record_lem ++ end_record_lem) ≡ Err (NotStep 2))
+    × (judge_of small (seed_record_lem ++ end_record_lem) ≡ Err (NotEnd 1))
+    × (judge_of small (seed_record_lem ++ step_record_lem) ≡ Err (NotEnd 1))
+    × (judge_of small (seed_record_lem ++ step_record_lem ++ seed_record_lem) ≡ Err (NotEnd 2))
+    × (judged_told (Err (NotEnd 2)) ≡ AtRecord 23 2)
+unfolding judge_of judge_from judge_end judged_told fault_told length_right records record_at same_bytes find_step onwards small steps_out only point
+    seed_record_lem step_record_lem end_record_lem seed_bytes seed_words step_bytes step_words end_bytes end_words words_bytes bytes_of kind_number to_bits of_bits
 others = (refl, refl, refl, refl, refl, refl)

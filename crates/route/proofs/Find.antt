@@ -6,13 +6,12 @@ use mathlib.Core.Path.{◌≡◌, refl, sym, ap, ap₂, ◌∙◌, subst}
 use mathlib.Core.Bool.{Bool, true, false, cond}
 use mathlib.Core.List.Memᴰ
 use mathlib.Core.List.{List, [], ◌∷◌, ◌++◌}
-use mathlib.Core.Logic.{◌↔◌, ◌⊎◌, ⊎_elim}
+use mathlib.Core.Logic.{◌↔◌, ⊎_elim}
 use borrow.Author.Tests.{eqb-true, eq-eqb}
 use lib.Dec.{eqb}
+use Rattle.std.specs.Prelude.{Option, Some, None}
 use Rattle.float.proofs.Tests.{and_true, untrue, failed}
 use Rattle.route.specs.declared.Step.{Step}
-use Rattle.route.specs.declared.Sought.{Sought}
-use Rattle.route.specs.declared.Sought.TheVariants.{Found, Missing}
 use Rattle.route.specs.Step.{Held}
 use Rattle.route.specs.Record.{step_bytes}
 use Rattle.route.specs.World.{◌∈◌}
@@ -49,11 +48,11 @@ same_false xs ys h e = untrue (sym h ∙ same_of xs ys e)
 
 -- ---- the search for a step, list by list
 
-pub find_nil : (bytes : List ℕ) → find_step [] bytes ≡ Missing
+pub find_nil : (bytes : List ℕ) → find_step [] bytes ≡ None
 unfolding find_step
 find_nil bytes = refl
 
-pub find_one : (s : Step) (bytes : List ℕ) → find_step (s ∷ []) bytes ≡ cond (same_bytes bytes (step_bytes s)) (Found s) Missing
+pub find_one : (s : Step) (bytes : List ℕ) → find_step (s ∷ []) bytes ≡ cond (same_bytes bytes (step_bytes s)) (Some s) None
 unfolding find_step
 find_one s bytes = refl
 
@@ -63,51 +62,51 @@ find_append [] ys bytes = refl
 find_append (s ∷ xs) ys bytes = go (same_bytes bytes (step_bytes s)) (find_append xs ys bytes)
   where
     go : (b : Bool) → find_step (xs ++ ys) bytes ≡ or_else (find_step xs bytes) (find_step ys bytes)
-        → cond b (Found s) (find_step (xs ++ ys) bytes) ≡ or_else (cond b (Found s) (find_step xs bytes)) (find_step ys bytes)
+        → cond b (Some s) (find_step (xs ++ ys) bytes) ≡ or_else (cond b (Some s) (find_step xs bytes)) (find_step ys bytes)
     go true e = refl
     go false e = e
 
 -- a step that was found among the first is found; where it is missing there, the others are asked
-pub find_within : (xs ys : List Step) (bytes : List ℕ) (s : Step) → find_step xs bytes ≡ Found s → find_step (xs ++ ys) bytes ≡ Found s
+pub find_within : (xs ys : List Step) (bytes : List ℕ) (s : Step) → find_step xs bytes ≡ Some s → find_step (xs ++ ys) bytes ≡ Some s
 unfolding or_else
 find_within xs ys bytes s h = find_append xs ys bytes ∙ rw h
 
-pub find_beyond : (xs ys : List Step) (bytes : List ℕ) → find_step xs bytes ≡ Missing → find_step (xs ++ ys) bytes ≡ find_step ys bytes
+pub find_beyond : (xs ys : List Step) (bytes : List ℕ) → find_step xs bytes ≡ None → find_step (xs ++ ys) bytes ≡ find_step ys bytes
 unfolding or_else
 find_beyond xs ys bytes h = find_append xs ys bytes ∙ rw h
 
 -- ---- what was found
 
-pub find_found : (steps : List Step) (bytes : List ℕ) (s : Step) → find_step steps bytes ≡ Found s → (s ∈ steps) × (bytes ≡ step_bytes s)
+pub find_found : (steps : List Step) (bytes : List ℕ) (s : Step) → find_step steps bytes ≡ Some s → (s ∈ steps) × (bytes ≡ step_bytes s)
 unfolding find_step
 find_found [] bytes s e = let z : ◌≡◌ {A = ℕ} 0 1 = cc in absurd (omega arith)
 find_found (t ∷ steps) bytes s e = go (same_bytes bytes (step_bytes t)) refl e (find_found steps bytes s)
   where
-    go : (b : Bool) → same_bytes bytes (step_bytes t) ≡ b → cond b (Found t) (find_step steps bytes) ≡ Found s
-        → (find_step steps bytes ≡ Found s → (s ∈ steps) × (bytes ≡ step_bytes s)) → (s ∈ (t ∷ steps)) × (bytes ≡ step_bytes s)
+    go : (b : Bool) → same_bytes bytes (step_bytes t) ≡ b → cond b (Some t) (find_step steps bytes) ≡ Some s
+        → (find_step steps bytes ≡ Some s → (s ∈ steps) × (bytes ≡ step_bytes s)) → (s ∈ (t ∷ steps)) × (bytes ≡ step_bytes s)
     go true h e below = let k : s ≡ t = cc in (Memᴰ.head k, same_true bytes (step_bytes t) h ∙ ap step_bytes (sym k))
     go false h e below = let r = below e in (Memᴰ.tail r.0, r.1)
 
-pub find_missing : (steps : List Step) (bytes : List ℕ) → find_step steps bytes ≡ Missing → (s : Step) → s ∈ steps → bytes ≡ step_bytes s → ⊥
+pub find_missing : (steps : List Step) (bytes : List ℕ) → find_step steps bytes ≡ None → (s : Step) → s ∈ steps → bytes ≡ step_bytes s → ⊥
 unfolding find_step
 find_missing [] bytes e s m k = Memᴰ.not-nil m
 find_missing (t ∷ steps) bytes e s m k = go (same_bytes bytes (step_bytes t)) refl e (find_missing steps bytes)
   where
-    go : (b : Bool) → same_bytes bytes (step_bytes t) ≡ b → cond b (Found t) (find_step steps bytes) ≡ Missing
-        → (find_step steps bytes ≡ Missing → (s : Step) → s ∈ steps → bytes ≡ step_bytes s → ⊥) → ⊥
+    go : (b : Bool) → same_bytes bytes (step_bytes t) ≡ b → cond b (Some t) (find_step steps bytes) ≡ None
+        → (find_step steps bytes ≡ None → (s : Step) → s ∈ steps → bytes ≡ step_bytes s → ⊥) → ⊥
     go true h e below = let z : ◌≡◌ {A = ℕ} 0 1 = cc in omega arith
     go false h e below = ⊎_elim (λ i. same_false bytes (step_bytes t) h (k ∙ ap step_bytes i)) (λ r. below e s r k) (Memᴰ.cases_cons m)
 
-pub find_none : (steps : List Step) (bytes : List ℕ) → ((s : Step) → s ∈ steps → bytes ≡ step_bytes s → ⊥) → find_step steps bytes ≡ Missing
+pub find_none : (steps : List Step) (bytes : List ℕ) → ((s : Step) → s ∈ steps → bytes ≡ step_bytes s → ⊥) → find_step steps bytes ≡ None
 unfolding find_step
 find_none [] bytes h = refl
 find_none (t ∷ steps) bytes h = rw (other_of bytes (step_bytes t) (h t (Memᴰ.head refl))) (find_none steps bytes (λ s m. h s (Memᴰ.tail m)))
 
 -- of steps that records hold, the one with these bytes is found: no other has them
 pub find_is : (steps : List Step) (bytes : List ℕ) (s : Step) → ((t : Step) → t ∈ steps → Held t) → s ∈ steps → bytes ≡ step_bytes s
-    → find_step steps bytes ≡ Found s
+    → find_step steps bytes ≡ Some s
 find_is steps bytes s held m e = go (find_step steps bytes) refl
   where
-    go : (f : Sought) → find_step steps bytes ≡ f → f ≡ Found s
-    go (Found t) r = let p = find_found steps bytes t r in ap Found (step_bytes_tell t s (held t p.0) (held s m) (sym p.1 ∙ e))
-    go Missing r = absurd (find_missing steps bytes r s m e)
+    go : (f : Option Step) → find_step steps bytes ≡ f → f ≡ Some s
+    go (Some t) r = let p = find_found steps bytes t r in ap Some (step_bytes_tell t s (held t p.0) (held s m) (sym p.1 ∙ e))
+    go None r = absurd (find_missing steps bytes r s m e)

@@ -6,7 +6,7 @@ use mathlib.Core.Path.{◌≡◌, refl, sym, ap, ◌∙◌}
 use mathlib.Core.Bool.{true}
 use mathlib.Core.List.{List, ◌++◌}
 use lib.ListN.{length, take}
-use Rattle.route.specs.declared.Judged.TheVariants.{Accepted}
+use Rattle.std.specs.Prelude.{Ok}
 use Rattle.route.specs.Record.{record_at}
 use Rattle.route.specs.World.{World, Lawful, Trail, TrueRoute}
 use Rattle.route.specs.Judge.{judge_of}
@@ -30,12 +30,12 @@ module _ {Node : Type 0} {w : World Node} (lawful : Lawful w) where
       (n, one.1, parts.0)
 
   pub trail_is_accepted : {d : ℕ} {n : Node} {bs : List ℕ} → Trail w d n bs → d ≤ 4095 → w.in_goal n ≡ true
-      → judge_of w (bs ++ w.end_bytes n) ≡ Accepted
+      → judge_of w (bs ++ w.end_bytes n) ≡ Ok tt
   trail_is_accepted {d} {n} {bs} t few g =
       (accepted_exactly lawful (bs ++ w.end_bytes n)).1 (record { steps = d; few = few; last = n; bytes = bs; trail = t; arrived = g; whole = refl })
 
   -- the same of a lent buffer that begins with those records
   pub written_is_accepted : {d : ℕ} {n : Node} {bs : List ℕ} → Trail w d n bs → d ≤ 4095 → w.in_goal n ≡ true → (out : List ℕ)
       → take ((d + 1) * 32) out ≡ bs
-      → record_at out (d + 1) ≡ w.end_bytes n → judge_of w (take ((d + 1 + 1) * 32) out) ≡ Accepted
+      → record_at out (d + 1) ≡ w.end_bytes n → judge_of w (take ((d + 1 + 1) * 32) out) ≡ Ok tt
   written_is_accepted {d} {n} {bs} t few g out e k = ap (judge_of w) (join_next d out bs (w.end_bytes n) e k) ∙ trail_is_accepted t few g

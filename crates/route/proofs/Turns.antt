@@ -7,10 +7,10 @@ use mathlib.Core.List.{List}
 use borrow.Author.Tests.{eqb-true, leb-true}
 use lib.Dec.{eqb, leb}
 use lib.ListN.{length}
+use Rattle.std.specs.Prelude.{Some, None, Ok, Err}
 use Rattle.float.proofs.Tests.{and_true}
 use Rattle.route.specs.declared.Step.{Step}
-use Rattle.route.specs.declared.Sought.TheVariants.{Found, Missing}
-use Rattle.route.specs.declared.Judged.TheVariants.{Accepted, Length, NotSeed, NotStep, NotEnd}
+use Rattle.route.specs.declared.Fault.TheVariants.{Length, NotSeed, NotStep, NotEnd}
 use Rattle.route.specs.World.{World}
 use Rattle.route.specs.Record.{record_at, records}
 use Rattle.route.specs.Judge.{same_bytes, length_right, find_step, onwards, judge_end, judge_from, judge_of}
@@ -28,11 +28,11 @@ length_gives file h =
 module _ {Node : Type 0} (w : World Node) (file : List ℕ) where
   -- ---- how it begins
 
-  pub begins_length : length_right file ≡ false → judge_of w file ≡ Length
+  pub begins_length : length_right file ≡ false → judge_of w file ≡ Err Length
   unfolding judge_of
   begins_length h = rw h
 
-  pub begins_wrong : length_right file ≡ true → same_bytes (record_at file 0) w.seed_bytes ≡ false → judge_of w file ≡ NotSeed
+  pub begins_wrong : length_right file ≡ true → same_bytes (record_at file 0) w.seed_bytes ≡ false → judge_of w file ≡ Err NotSeed
   unfolding judge_of
   begins_wrong h k = rw (h, k)
 
@@ -43,23 +43,23 @@ module _ {Node : Type 0} (w : World Node) (file : List ℕ) where
 
   -- ---- one middle record
 
-  pub goes_on : (node : Node) (i left : ℕ) (s : Step) → find_step (w.steps_from node) (record_at file i) ≡ Found s
+  pub goes_on : (node : Node) (i left : ℕ) (s : Step) → find_step (w.steps_from node) (record_at file i) ≡ Some s
       → judge_from w file node i (suc left) ≡ judge_from w file (w.enter node s) (i + 1) left
   unfolding judge_from onwards
   goes_on node i left s h = rw h
 
-  pub stops : (node : Node) (i left : ℕ) → find_step (w.steps_from node) (record_at file i) ≡ Missing → judge_from w file node i (suc left) ≡ NotStep i
+  pub stops : (node : Node) (i left : ℕ) → find_step (w.steps_from node) (record_at file i) ≡ None → judge_from w file node i (suc left) ≡ Err (NotStep i)
   unfolding judge_from onwards
   stops node i left h = rw h
 
   -- the same with the last record's number in place of what is left
-  pub goes_on_to : (node : Node) (i last : ℕ) (s : Step) → i < last → find_step (w.steps_from node) (record_at file i) ≡ Found s
+  pub goes_on_to : (node : Node) (i last : ℕ) (s : Step) → i < last → find_step (w.steps_from node) (record_at file i) ≡ Some s
       → judge_from w file node i (last - i) ≡ judge_from w file (w.enter node s) (i + 1) (last - (i + 1))
   goes_on_to node i last s h e =
       let n : last - i ≡ suc (last - (i + 1)) = omega arith in ap (judge_from w file node i) n ∙ goes_on node i (last - (i + 1)) s e
 
-  pub stops_at : (node : Node) (i last : ℕ) → i < last → find_step (w.steps_from node) (record_at file i) ≡ Missing
-      → judge_from w file node i (last - i) ≡ NotStep i
+  pub stops_at : (node : Node) (i last : ℕ) → i < last → find_step (w.steps_from node) (record_at file i) ≡ None
+      → judge_from w file node i (last - i) ≡ Err (NotStep i)
   stops_at node i last h e = let n : last - i ≡ suc (last - (i + 1)) = omega arith in ap (judge_from w file node i) n ∙ stops node i (last - (i + 1)) e
 
   -- ---- the last record
@@ -72,15 +72,15 @@ module _ {Node : Type 0} (w : World Node) (file : List ℕ) where
   ends_at node i last h = let n : last - i ≡ 0 = omega arith in ap (judge_from w file node i) n ∙ ends node i
 
   pub end_accepted : (node : Node) (i : ℕ) → w.in_goal node ≡ true → same_bytes (record_at file i) (w.end_bytes node) ≡ true
-      → judge_end w file node i ≡ Accepted
+      → judge_end w file node i ≡ Ok tt
   unfolding judge_end
   end_accepted node i g e = simp (g, e)
 
-  pub end_outside : (node : Node) (i : ℕ) → w.in_goal node ≡ false → judge_end w file node i ≡ NotEnd i
+  pub end_outside : (node : Node) (i : ℕ) → w.in_goal node ≡ false → judge_end w file node i ≡ Err (NotEnd i)
   unfolding judge_end
   end_outside node i g = simp g
 
   pub end_wrong : (node : Node) (i : ℕ) → w.in_goal node ≡ true → same_bytes (record_at file i) (w.end_bytes node) ≡ false
-      → judge_end w file node i ≡ NotEnd i
+      → judge_end w file node i ≡ Err (NotEnd i)
   unfolding judge_end
   end_wrong node i g e = simp (g, e)

@@ -9,11 +9,11 @@ use mathlib.Core.Logic.{◌↔◌, ◌⊎◌, inl, inr}
 use borrow.Author.Tests.{eq-eqb, le-leb}
 use lib.ListN.{length, take}
 use lib.Seq.{take_all}
+use Rattle.std.specs.Prelude.{Option, Some, None, Result, Ok, Err}
 use Rattle.float.proofs.Tests.{untrue, failed}
-use Rattle.route.specs.declared.Sought.{Sought}
-use Rattle.route.specs.declared.Sought.TheVariants.{Found, Missing}
-use Rattle.route.specs.declared.Judged.{Judged}
-use Rattle.route.specs.declared.Judged.TheVariants.{Accepted, Length, NotSeed, NotStep, NotEnd}
+use Rattle.route.specs.declared.Step.{Step}
+use Rattle.route.specs.declared.Fault.{Fault}
+use Rattle.route.specs.declared.Fault.TheVariants.{Length, NotSeed, NotStep, NotEnd}
 use Rattle.route.specs.Record.{record_at, records, step_bytes}
 use Rattle.route.specs.World.{World, Lawful, Trail, seeded, stepped, TrueRoute}
 use Rattle.route.specs.Judge.{same_bytes, length_right, find_step, judge_end, judge_from, judge_of}
@@ -60,7 +60,7 @@ module _ {Node : Type 0} {w : World Node} (lawful : Lawful w) (file : List ℕ) 
   end_told {d} {n} {bs} t e long c = go (w.in_goal n) refl (same_bytes (record_at file (d + 1)) (w.end_bytes n)) refl
     where
       go : (g : Bool) → w.in_goal n ≡ g → (b : Bool) → same_bytes (record_at file (d + 1)) (w.end_bytes n) ≡ b
-          → Case w file (cond (g && b) Accepted (NotEnd (d + 1)))
+          → Case w file (cond (g && b) (Ok tt) (Err (NotEnd (d + 1))))
       go true g true b = record {
         steps = d;
         few = omega (arith, long.most);
@@ -86,15 +86,15 @@ module _ {Node : Type 0} {w : World Node} (lawful : Lawful w) (file : List ℕ) 
   from_told (suc left) {d} {n} {bs} t e long c =
       go (find_step (w.steps_from n) (record_at file (d + 1))) refl (λ m cs u k. from_told left u k long (omega arith))
     where
-      go : (f : Sought) → find_step (w.steps_from n) (record_at file (d + 1)) ≡ f
+      go : (f : Option Step) → find_step (w.steps_from n) (record_at file (d + 1)) ≡ f
           → ((m : Node) (cs : List ℕ) → Trail w (d + 1) m cs → take ((d + 1 + 1) * 32) file ≡ cs
           → Case w file (judge_from w file m (d + 1 + 1) left))
           → Case w file (judge_from w file n (d + 1) (suc left))
-      go (Found s) f below =
+      go (Some s) f below =
           let p = find_found (w.steps_from n) (record_at file (d + 1)) s f in
           subst (Case w file) (sym (goes_on w file n (d + 1) left s f))
           (below (w.enter n s) (bs ++ step_bytes s) (stepped t p.0) (join_next d file bs (step_bytes s) e p.1))
-      go Missing f below =
+      go None f below =
           subst (Case w file) (sym (stops w file n (d + 1) left f))
           (record { long = long; middle = omega arith; node = n; before = leads t e; wrong = find_missing (w.steps_from n) (record_at file (d + 1)) f })
 
@@ -127,57 +127,57 @@ module _ {Node : Type 0} {w : World Node} (lawful : Lawful w) (file : List ℕ) 
       ∙ ap (judge_from w file w.seed 1) l
       ∙ judge_along lawful t file left e
 
-  pub judge_says : (v : Judged) → Case w file v → judge_of w file ≡ v
-  judge_says Accepted r =
+  pub judge_says : (v : Result Unit Fault) → Case w file v → judge_of w file ≡ v
+  judge_says (Ok tt) r =
       let long : length file ≡ 32 * (r.steps + 2) = route_long lawful r in
       let parts = cut_next r.steps file r.bytes (w.end_bytes r.last) (trail_long lawful r.trail)
       (take_all ((r.steps + 1 + 1) * 32) file (omega arith) ∙ r.whole) in
       judge_reaches r.trail parts.0 (record { records = r.steps + 2; least = omega arith; most = omega (arith, r.few); whole = long }) 0 (omega arith)
       ∙ ends w file r.last (r.steps + 1)
       ∙ end_accepted w file r.last (r.steps + 1) r.arrived (same_of (record_at file (r.steps + 1)) (w.end_bytes r.last) parts.1)
-  judge_says Length r = begins_length w file (failed (length_right file) (λ h. r (length_told file h)))
-  judge_says NotSeed r = begins_wrong w file (length_right_lem file r.long) (other_of (record_at file 0) w.seed_bytes r.wrong)
-  judge_says (NotStep k) r =
+  judge_says (Err Length) r = begins_length w file (failed (length_right file) (λ h. r (length_told file h)))
+  judge_says (Err NotSeed) r = begins_wrong w file (length_right_lem file r.long) (other_of (record_at file 0) w.seed_bytes r.wrong)
+  judge_says (Err (NotStep k)) r =
       let t = r.before in
       let e : take ((t.steps + 1) * 32) file ≡ take (k * 32) file = ap (λ (x : ℕ). take (x * 32) file) (sym t.count) in
       let f : record_at file (t.steps + 1) ≡ record_at file k = ap (record_at file) (sym t.count) in
       judge_reaches t.trail e r.long (suc (r.long.records - (k + 2))) (omega (arith, t.count, r.middle))
       ∙ stops w file r.node (t.steps + 1) (r.long.records - (k + 2))
       (find_none (w.steps_from r.node) (record_at file (t.steps + 1)) (λ s m g. r.wrong s m (sym f ∙ g)))
-      ∙ ap NotStep (sym t.count)
-  judge_says (NotEnd k) r =
+      ∙ ap (λ (x : ℕ). Err (NotStep x)) (sym t.count)
+  judge_says (Err (NotEnd k)) r =
       let t = r.before in
       let e : take ((t.steps + 1) * 32) file ≡ take (k * 32) file = ap (λ (x : ℕ). take (x * 32) file) (sym t.count) in
       let f : record_at file (t.steps + 1) ≡ record_at file k = ap (record_at file) (sym t.count) in
       judge_reaches t.trail e r.long 0 (omega (arith, t.count, r.last))
       ∙ ends w file r.node (t.steps + 1)
       ∙ refused (w.in_goal r.node) refl (t.steps + 1) f r.wrong
-      ∙ ap NotEnd (sym t.count)
+      ∙ ap (λ (x : ℕ). Err (NotEnd x)) (sym t.count)
     where
       refused : (g : Bool) → w.in_goal r.node ≡ g → (i : ℕ) → record_at file i ≡ record_at file k
-          → (w.in_goal r.node ≡ false) ⊎ (record_at file k ≡ w.end_bytes r.node → ⊥) → judge_end w file r.node i ≡ NotEnd i
+          → (w.in_goal r.node ≡ false) ⊎ (record_at file k ≡ w.end_bytes r.node → ⊥) → judge_end w file r.node i ≡ Err (NotEnd i)
       refused false g i f o = end_outside w file r.node i g
       refused true g i f (inl h) = untrue (sym h ∙ g)
       refused true g i f (inr h) = end_wrong w file r.node i g (other_of (record_at file i) (w.end_bytes r.node) (λ e. h (sym f ∙ e)))
 
   -- Each verdict is given exactly in its case.
-  pub judged_exactly : (v : Judged) → judge_of w file ≡ v ↔ Case w file v
+  pub judged_exactly : (v : Result Unit Fault) → judge_of w file ≡ v ↔ Case w file v
   judged_exactly v = ((λ e. subst (Case w file) e judge_told), judge_says v)
 
   -- ---- verdict by verdict
 
   -- Demand 3: the judge accepts exactly the true routes.
-  pub accepted_exactly : judge_of w file ≡ Accepted ↔ TrueRoute w file
-  accepted_exactly = judged_exactly Accepted
+  pub accepted_exactly : judge_of w file ≡ Ok tt ↔ TrueRoute w file
+  accepted_exactly = judged_exactly (Ok tt)
 
-  pub length_exactly : judge_of w file ≡ Length ↔ (RouteLength file → ⊥)
-  length_exactly = judged_exactly Length
+  pub length_exactly : judge_of w file ≡ Err Length ↔ (RouteLength file → ⊥)
+  length_exactly = judged_exactly (Err Length)
 
-  pub seed_exactly : judge_of w file ≡ NotSeed ↔ SeedFault w file
-  seed_exactly = judged_exactly NotSeed
+  pub seed_exactly : judge_of w file ≡ Err NotSeed ↔ SeedFault w file
+  seed_exactly = judged_exactly (Err NotSeed)
 
-  pub step_exactly : (k : ℕ) → judge_of w file ≡ NotStep k ↔ StepFault w file k
-  step_exactly k = judged_exactly (NotStep k)
+  pub step_exactly : (k : ℕ) → judge_of w file ≡ Err (NotStep k) ↔ StepFault w file k
+  step_exactly k = judged_exactly (Err (NotStep k))
 
-  pub end_exactly : (k : ℕ) → judge_of w file ≡ NotEnd k ↔ EndFault w file k
-  end_exactly k = judged_exactly (NotEnd k)
+  pub end_exactly : (k : ℕ) → judge_of w file ≡ Err (NotEnd k) ↔ EndFault w file k
+  end_exactly k = judged_exactly (Err (NotEnd k))

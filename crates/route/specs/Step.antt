@@ -1,5 +1,5 @@
 -- Document 01, "The route file": a step's kind as a number, and which steps a record can hold. Assumes nothing.
-use Rattle.std.specs.Prelude.{ℕ, ◌<◌, ◌^◌, T}
+use Rattle.std.specs.Prelude.{ℕ, ◌<◌, ◌^◌, T, cond, eqb}
 use Rattle.std.specs.Float.{binary32}
 use Rattle.std.specs.Float.Ieee.{fits}
 use Rattle.point.specs.declared.Point.{Point}
@@ -12,6 +12,10 @@ unfoldable pub kind_number : SuccessorType → ℕ
 kind_number Observable = 2
 kind_number RightNonObservable = 3
 kind_number LeftNonObservable = 4
+
+-- the kind that a number stands for; 4, and what stands for none, is read as LeftNonObservable
+unfoldable pub kind_of : ℕ → SuccessorType
+kind_of number = cond (eqb number 2) Observable (cond (eqb number 3) RightNonObservable LeftNonObservable)
 
 -- A point whose coordinates are f32.
 pub record HeldPoint (p : Point) : Type 0 where

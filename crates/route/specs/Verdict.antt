@@ -1,9 +1,9 @@
 -- Document 01, "Each number is given exactly in its case": what each of the judge's verdicts says of a file, in words of trails and of the records'
 -- bytes, over any world. Definitions only. Assumes nothing.
-use Rattle.std.specs.Prelude.{ℕ, ◌+◌, ◌*◌, ◌≤◌, ◌<◌, ◌≡◌, false, List, ◌⊎◌, length, take}
+use Rattle.std.specs.Prelude.{ℕ, ◌+◌, ◌*◌, ◌≤◌, ◌<◌, ◌≡◌, false, List, ◌⊎◌, Result, Ok, Err, length, take}
 use Rattle.route.specs.declared.Step.{Step}
-use Rattle.route.specs.declared.Judged.{Judged}
-use Rattle.route.specs.declared.Judged.TheVariants.{Accepted, Length, NotSeed, NotStep, NotEnd}
+use Rattle.route.specs.declared.Fault.{Fault}
+use Rattle.route.specs.declared.Fault.TheVariants.{Length, NotSeed, NotStep, NotEnd}
 use Rattle.route.specs.Record.{record_at, step_bytes}
 use Rattle.route.specs.World.{World, ◌∈◌, Trail, TrueRoute}
 
@@ -42,9 +42,9 @@ pub record EndFault {Node : Type 0} (w : World Node) (file : List ℕ) (k : ℕ)
   pub wrong : (w.in_goal node ≡ false) ⊎ (record_at file k ≡ w.end_bytes node → ⊥)
 
 -- what a verdict says of a file
-abbrev pub Case : {Node : Type 0} → World Node → List ℕ → Judged → Type 0
-Case w file Accepted = TrueRoute w file
-Case w file Length = RouteLength file → ⊥
-Case w file NotSeed = SeedFault w file
-Case w file (NotStep k) = StepFault w file k
-Case w file (NotEnd k) = EndFault w file k
+abbrev pub Case : {Node : Type 0} → World Node → List ℕ → Result Unit Fault → Type 0
+Case w file (Ok tt) = TrueRoute w file
+Case w file (Err Length) = RouteLength file → ⊥
+Case w file (Err NotSeed) = SeedFault w file
+Case w file (Err (NotStep k)) = StepFault w file k
+Case w file (Err (NotEnd k)) = EndFault w file k

@@ -2,8 +2,8 @@
 // The route file: what a step is in it, and what the judge may say of it.
 
 ghost use Rattle.std.specs.Prelude.{◌≡◌};
-ghost use Rattle.route.specs.Step.{kind_number};
-ghost use Rattle.route.specs.Judge.{judged_told};
+ghost use Rattle.route.specs.Step.{kind_number, kind_of};
+ghost use Rattle.route.specs.Judge.{fault_told};
 
 use cut::SuccessorType;
 use point::Segment;
@@ -20,18 +20,9 @@ pub struct Step {
     pub interval: Segment,
 }
 
-// Which of a node's steps a record is.
+// What the judge finds wrong in a route file. It says Ok where the file is a true route.
 #[derive(Clone, Copy)]
-pub enum Sought {
-    Found(Step),
-    Missing,
-}
-
-// What the judge says of a route file.
-#[derive(Clone, Copy)]
-pub enum Judged {
-    // 0: the file is a true route.
-    Accepted,
+pub enum Fault {
     // 20: the file is not 2 to 4,097 records of 32 bytes.
     Length,
     // 21: record 0 is not the seed.
@@ -54,18 +45,29 @@ pub fn kind_number(kind: SuccessorType) -> u32
     }
 }
 
-impl Judged {
-    // The number in document 01's table, and the record at fault where there is one.
-    #[tactic(auto, unfolding(crate::specs::Judge::judged_told))]
-    pub fn told(self) -> Told
-        ensures { result ≡ judged_told self }
-    {
-        match self {
-            Judged::Accepted => Told::Alone(0),
-            Judged::Length => Told::Alone(20),
-            Judged::NotSeed => Told::AtRecord(21, 0),
-            Judged::NotStep(i) => Told::AtRecord(22, i),
-            Judged::NotEnd(i) => Told::AtRecord(23, i),
+// The kind that a number stands for. Whoever reads it has to know that it stands for one.
+#[tactic(auto, unfolding(crate::specs::Step::kind_of))]
+pub fn kind_of(number: u32) -> SuccessorType
+    ensures { result ≡ kind_of number }
+{
+    match number {
+        2 => SuccessorType::Observable,
+        3 => SuccessorType::RightNonObservable,
+        _ => SuccessorType::LeftNonObservable,
+    }
+}
+
+// The number in document 01's table, and the record at fault where there is one.
+impl From<Fault> for Told {
+    ghost from_gives = { λ fault told. told ≡ fault_told fault };
+
+    #[tactic(auto, unfolding(crate::specs::Judge::fault_told))]
+    fn from(fault: Fault) -> Told {
+        match fault {
+            Fault::Length => Told::Alone(20),
+            Fault::NotSeed => Told::AtRecord(21, 0),
+            Fault::NotStep(i) => Told::AtRecord(22, i),
+            Fault::NotEnd(i) => Told::AtRecord(23, i),
         }
     }
 }

@@ -5,7 +5,7 @@
 // route follow.
 // A line each says what came out, whether it is what is stored, and what the judge says of the bytes that were written.
 
-ghost use Rattle.std.specs.Prelude.{◌≡◌, length};
+ghost use Rattle.std.specs.Prelude.{◌≡◌};
 ghost use Rattle.routes.specs.Stored.{holds_of, byte_of};
 
 use search::Answer;
@@ -40,6 +40,17 @@ struct Stored {
     steps: usize,
 }
 
+// A case, with the bytes of its parts.
+#[derive(Clone, Copy)]
+struct Case<'a> {
+    lent: Lent,
+    stored: Stored,
+    vertices: &'a [u8],
+    polygons: &'a [u8],
+    question: &'a [u8],
+    route: &'a [u8],
+}
+
 // What the output is lent full of, so that a byte that is written where none should be shows.
 const UNWRITTEN: u8 = 255;
 
@@ -48,6 +59,18 @@ const HEADER_BYTES: usize = 44;
 const MOST_NAME_BYTES: usize = 64;
 
 const MOST_CASES: u64 = 100_000;
+
+// The longest route.
+const OUTPUT: usize = 131_104;
+
+// 4,096 nodes: 11 floats, 8 words and 2 words of the queue each; and as many that a stalled search has met, ten words each.
+const FLOATS: usize = 45_056;
+
+const WORDS: usize = 32_768;
+
+const QUEUE: usize = 8_192;
+
+const TABLE: usize = 40_960;
 
 fn main(rt: HostRuntime) -> io::Result<()> {
     let path = "cases";
@@ -62,14 +85,12 @@ fn main(rt: HostRuntime) -> io::Result<()> {
 
 // Case after case, and how many there were.
 fn tried_all<R: Read>(rt: &(impl Print + Eprint), file: &mut R) -> io::Result<u64> {
-    let mut cases: u64 = 0;
-    while cases < MOST_CASES {
+    for cases in 0..MOST_CASES {
         if !tried(rt, file)? {
             return Ok(cases);
         }
-        cases += 1;
     }
-    Ok(cases)
+    Ok(MOST_CASES)
 }
 
 // Reads a case, searches and says what came out; false at the end of the file.
@@ -78,35 +99,41 @@ fn tried<R: Read>(rt: &(impl Print + Eprint), file: &mut R) -> io::Result<bool> 
     if !console::fills(file, &mut header)? {
         return Ok(false);
     }
-    let parts = parts_of(&header);
+    let parts = Parts::of(&header);
     say_name(rt, file, parts.name)?;
-    read_and_try(rt, file, parts, lent_of(&header), stored_of(&header))?;
+    read_and_try(rt, file, parts, Lent::of(&header), Stored::of(&header))?;
     Ok(true)
 }
 
-fn parts_of(header: &[u8; 44]) -> Parts {
-    Parts {
-        name: word::read(header, 0) as usize,
-        vertices: word::read(header, 4) as usize,
-        polygons: word::read(header, 8) as usize,
-        question: word::read(header, 12) as usize,
-        route: word::read(header, 40) as usize,
+impl Parts {
+    fn of(header: &[u8; HEADER_BYTES]) -> Parts {
+        Parts {
+            name: word::read(header, 0) as usize,
+            vertices: word::read(header, 4) as usize,
+            polygons: word::read(header, 8) as usize,
+            question: word::read(header, 12) as usize,
+            route: word::read(header, 40) as usize,
+        }
     }
 }
 
-fn lent_of(header: &[u8; 44]) -> Lent {
-    Lent {
-        places: word::read(header, 16) as usize,
-        entries: word::read(header, 20) as usize,
-        budget: word::read(header, 24) as usize,
-        room: word::read(header, 28) as usize,
+impl Lent {
+    fn of(header: &[u8; HEADER_BYTES]) -> Lent {
+        Lent {
+            places: word::read(header, 16) as usize,
+            entries: word::read(header, 20) as usize,
+            budget: word::read(header, 24) as usize,
+            room: word::read(header, 28) as usize,
+        }
     }
 }
 
-fn stored_of(header: &[u8; 44]) -> Stored {
-    Stored {
-        number: word::read(header, 32),
-        steps: word::read(header, 36) as usize,
+impl Stored {
+    fn of(header: &[u8; HEADER_BYTES]) -> Stored {
+        Stored {
+            number: word::read(header, 32),
+            steps: word::read(header, 36) as usize,
+        }
     }
 }
 
@@ -124,124 +151,82 @@ fn read_and_try<R: Read>(
     lent: Lent,
     stored: Stored,
 ) -> io::Result<()> {
-    let mut vertices = console::room_for_vertices();
-    let mut polygons = console::room_for_polygons();
-    let mut question = console::room_for_question();
-    let mut route = console::room_for_route();
+    let mut vertices = console::room::<{ console::VERTICES }>();
+    let mut polygons = console::room::<{ console::POLYGONS }>();
+    let mut question = console::room::<{ console::QUESTION }>();
+    let mut route = console::room::<{ console::ROUTE }>();
     let v = console::read_part(file, parts.vertices, &mut vertices);
     let p = console::read_part(file, parts.polygons, &mut polygons);
     let q = console::read_part(file, parts.question, &mut question);
     let r = console::read_part(file, parts.route, &mut route);
-    try_case(
-        rt,
+    let case = Case {
         lent,
         stored,
-        &vertices[..v],
-        &polygons[..p],
-        &question[..q],
-        &route[..r],
-    )
+        vertices: &vertices[..v],
+        polygons: &polygons[..p],
+        question: &question[..q],
+        route: &route[..r],
+    };
+    case.try_out(rt)
 }
 
-// Room for the longest route. Only the length is said, which lending an array as a slice needs.
-fn room_for_output() -> [u8; 131104]
-    ensures { 131104 ≡ length result }
-{
-    [UNWRITTEN; 131104]
-}
+impl Case<'_> {
+    fn try_out(&self, rt: &(impl Print + Eprint)) -> io::Result<()> {
+        let mut out = console::room_of::<u8, OUTPUT>(UNWRITTEN);
+        let room = self.lent.room.min(out.len());
+        self.try_with(rt, &mut out[..room])
+    }
 
-fn try_case(
-    rt: &(impl Print + Eprint),
-    lent: Lent,
-    stored: Stored,
-    vertices: &[u8],
-    polygons: &[u8],
-    question: &[u8],
-    route: &[u8],
-) -> io::Result<()> {
-    let mut out = room_for_output();
-    let room = console::at_most(lent.room, out.len());
-    try_with(
-        rt,
-        lent,
-        stored,
-        vertices,
-        polygons,
-        question,
-        route,
-        &mut out[..room],
-    )
-}
+    fn try_with(&self, rt: &(impl Print + Eprint), out: &mut [u8]) -> io::Result<()> {
+        let answer = self.search_with(out);
+        let told = Told::from(answer);
+        let steps = answer.steps();
+        say(rt, told, steps)?;
+        say_whether(rt, self.is_as_stored(told, steps, out))?;
+        self.judge_found(rt, told, out)
+    }
 
-fn try_with(
-    rt: &(impl Print + Eprint),
-    lent: Lent,
-    stored: Stored,
-    vertices: &[u8],
-    polygons: &[u8],
-    question: &[u8],
-    route: &[u8],
-    out: &mut [u8],
-) -> io::Result<()> {
-    let answer = search_with(lent, vertices, polygons, question, out);
-    let told = answer.told();
-    let steps = answer.steps();
-    say(rt, told, steps)?;
-    say_whether(rt, is_as_stored(stored, told, steps, out, route))?;
-    judge_found(rt, told, vertices, polygons, question, out)
-}
+    // The search with as many places and entries, as many steps and as much room as is lent.
+    fn search_with(&self, out: &mut [u8]) -> Answer {
+        let mut floats = console::room_of::<f32, FLOATS>(0.0);
+        let mut words = console::room_of::<u32, WORDS>(0);
+        let mut queue = console::room_of::<u32, QUEUE>(0);
+        let mut table = console::room_of::<u32, TABLE>(0);
+        let n = self.lent.places.min(places::MOST_PLACES);
+        let m = self.lent.entries.min(places::MOST_PLACES);
+        search::search(
+            self.vertices,
+            self.polygons,
+            self.question,
+            self.lent.budget,
+            &mut floats[..n * 11],
+            &mut words[..n * 8],
+            &mut queue[..n * 2],
+            &mut table[..m * 10],
+            out,
+        )
+    }
 
-// Room for 4,096 nodes: 11 floats, 8 words and 2 words of the queue each.
-fn room_for_floats() -> [f32; 45056]
-    ensures { 45056 ≡ length result }
-{
-    [0.0; 45056]
-}
+    fn is_as_stored(&self, told: Told, steps: usize, out: &[u8]) -> bool {
+        told.number() == self.stored.number
+            && steps == self.stored.steps
+            && bytes_of(told) == self.route.len()
+            && holds(out, self.route)
+    }
 
-fn room_for_words() -> [u32; 32768]
-    ensures { 32768 ≡ length result }
-{
-    [0; 32768]
-}
-
-fn room_for_queue() -> [u32; 8192]
-    ensures { 8192 ≡ length result }
-{
-    [0; 8192]
-}
-
-// Room for 4,096 nodes that a stalled search has met, ten words each.
-fn room_for_table() -> [u32; 40960]
-    ensures { 40960 ≡ length result }
-{
-    [0; 40960]
-}
-
-// The search with as many places and entries, as many steps and as much room as is lent.
-fn search_with(
-    lent: Lent,
-    vertices: &[u8],
-    polygons: &[u8],
-    question: &[u8],
-    out: &mut [u8],
-) -> Answer {
-    let mut floats = room_for_floats();
-    let mut words = room_for_words();
-    let mut queue = room_for_queue();
-    let mut table = room_for_table();
-    let n = console::at_most(lent.places, places::MOST_PLACES);
-    let m = console::at_most(lent.entries, places::MOST_PLACES);
-    search::search(
-        vertices,
-        polygons,
-        question,
-        lent.budget,
-        &mut floats[..n * 11],
-        &mut words[..n * 8],
-        &mut queue[..n * 2],
-        &mut table[..m * 10],
-        out,
-    )
+    // What the judge says of a route that was found, and the end of the line. A route that was found fits the output: that is a
+    // law (`found_fits`), and the test here never fails.
+    fn judge_found(&self, rt: &(impl Print + Eprint), told: Told, out: &[u8]) -> io::Result<()> {
+        let Told::WithCount(_, bytes) = told else {
+            return println!(rt);
+        };
+        if let Some(route) = out.get(..bytes) {
+            print!(rt; ", judged ")?;
+            let verdict = judge::judge(self.vertices, self.polygons, self.question, route);
+            console::say(rt, judge::told(verdict));
+        }
+        Ok(())
+    }
 }
 
 // The number, the words, the counted steps and the bytes, as "1 no route was found, steps 18, bytes 0".
@@ -277,29 +262,14 @@ fn bytes_of(told: Told) -> usize {
     bytes
 }
 
-fn is_as_stored(stored: Stored, told: Told, steps: usize, out: &[u8], route: &[u8]) -> bool {
-    if told.number() != stored.number {
-        return false;
-    }
-    if steps != stored.steps {
-        return false;
-    }
-    if bytes_of(told) != route.len() {
-        return false;
-    }
-    holds(out, route)
-}
-
 // Whether the output begins with the route and is unwritten behind it.
 fn holds(out: &[u8], route: &[u8]) -> bool
     ensures { result ≡ holds_of out.now route.now }
 {
-    let mut i = 0;
-    while i < out.len() {
-        if out[i] != byte_of(route, i) {
+    for (i, byte) in out.iter().enumerate() {
+        if *byte != byte_of(route, i) {
             return false;
         }
-        i += 1;
     }
     true
 }
@@ -308,42 +278,5 @@ fn holds(out: &[u8], route: &[u8]) -> bool
 fn byte_of(route: &[u8], i: usize) -> u8
     ensures { result ≡ byte_of route.now i }
 {
-    if i < route.len() {
-        return route[i];
-    }
-    UNWRITTEN
-}
-
-// What the judge says of a route that was found, and the end of the line.
-fn judge_found(
-    rt: &(impl Print + Eprint),
-    told: Told,
-    vertices: &[u8],
-    polygons: &[u8],
-    question: &[u8],
-    out: &[u8],
-) -> io::Result<()> {
-    let Told::WithCount(_, bytes) = told else {
-        return println!(rt);
-    };
-    judge_front(rt, vertices, polygons, question, out, bytes)
-}
-
-// A route that was found fits the output: that is a law (`found_fits`), and the test here never fails.
-fn judge_front(
-    rt: &(impl Print + Eprint),
-    vertices: &[u8],
-    polygons: &[u8],
-    question: &[u8],
-    out: &[u8],
-    bytes: usize,
-) -> io::Result<()> {
-    if bytes <= out.len() {
-        print!(rt; ", judged ")?;
-        console::say(
-            rt,
-            judge::judge(vertices, polygons, question, &out[..bytes]).told(),
-        );
-    }
-    Ok(())
+    route.get(i).copied().unwrap_or(UNWRITTEN)
 }

@@ -12,10 +12,8 @@ use Rattle.float.proofs.Nan.{le_no_nan}
 use Rattle.point.specs.declared.Point.{Point}
 use Rattle.point.specs.Point.{limit, same_of}
 use Rattle.floor.specs.declared.Refusal.{Refusal}
-use Rattle.floor.specs.declared.FloorLook.{FloorLook}
-use Rattle.floor.specs.declared.FloorLook.TheVariants.{Accepted as Sound, Faulty}
-use Rattle.floor.specs.declared.Look.{Look}
-use Rattle.floor.specs.declared.Look.TheVariants.{Inside, Refused}
+use Rattle.std.specs.Prelude.{Result, Ok, Err}
+use Rattle.floor.specs.declared.Inside.{Inside}
 use Rattle.plan.specs.Plan.{polygon_count_in}
 use Rattle.stored.specs.Stored.{Floor, floor_of, floor_in, question_of}
 use Rattle.faults.specs.Tests.{coordinate_right, point_right, question_right}
@@ -25,11 +23,13 @@ use Rattle.steps.specs.declared.Trip.{Trip}
 use Rattle.steps.specs.Steps.{seed_node}
 use Rattle.steps.specs.World.{trip_of}
 use Rattle.places.proofs.Records.{same_itself}
+use Rattle.machine.specs.declared.buffers.Buffers.{Buffers}
 use Rattle.machine.specs.declared.Task.{Task}
+use Rattle.machine.specs.Buffers.{work_in}
 use Rattle.writing.specs.declared.Answer.{Answer}
 use Rattle.writing.specs.declared.Answer.TheVariants.{NoPlaces}
 use Rattle.writing.specs.Answers.{refused}
-use Rattle.places.specs.Layout.{Work, Room, places_in}
+use Rattle.places.specs.Layout.{Work, work_of, Room, places_in}
 use Rattle.machine.specs.Search.{Ending, Rest, rest_of, rest_in, searched_from}
 use Rattle.writing.specs.Delivered.{straight_bytes, written, delivered}
 use Rattle.search.specs.Whole.{Lent, lent_of, Searched, searched_of, with_lent, routed, between_of, asked_of, search_of}
@@ -71,6 +71,14 @@ routes_told plan vs ps t budget w lent g room places listed e table s =
     let tells = finish_tells plan vs ps t seed ended.search.state h.sound g ended.finish h.arrives in
     subst (λ (r : Rest). Tells r.end.state.work.floats r.end.state.work.words r.end.finish) (sym s) tells
 
+-- ---- the lent buffers
+
+-- what the slices hold once they are given back
+pub given_back : {floats : List Float} {words queue : List ℕ} (work : Buffers) → floats ≡ work.floats.now → words ≡ work.words.now → queue ≡ work.queue.now
+    → {r : Answer} {table out : List ℕ} {x : Searched} → searched_of r (lent_of (work_in work) table) out ≡ x
+    → searched_of r (lent_of (work_of floats words queue) table) out ≡ x
+given_back work f w q e = rw (f, w, q) e
+
 -- ---- how many places
 
 module _ (f : Floor) (trip : Trip) (budget : ℕ) (lent : Lent) (out : List ℕ) {n : ℕ} (places : n ≡ places_in lent.work) where
@@ -99,25 +107,25 @@ start_self question e {start} s =
     let x = and_true (coordinate_right q.start.x) (coordinate_right q.start.y) (and_true (point_right q.start) (point_right q.goal) points).0 in
     subst (λ (p : Point). same_of p p ≡ true) (sym s) (same_itself q.start (in_range q.start.x x.0) (in_range q.start.y x.1))
 
-module _ (f : Floor) (question : List ℕ) (budget : ℕ) (lent : Lent) (out : List ℕ) {look : Look} (asked : look ≡ ask_of f question) where
-  pub asks_inside : {p goal : ℕ} → look ≡ Inside p goal → {trip : Trip} → trip ≡ trip_of (question_of question) p goal
+module _ (f : Floor) (question : List ℕ) (budget : ℕ) (lent : Lent) (out : List ℕ) {look : Result Inside Refusal} (asked : look ≡ ask_of f question) where
+  pub asks_inside : {inside : Inside} → look ≡ Ok inside → {trip : Trip} → trip ≡ trip_of (question_of question) inside.start inside.goal
       → {x : Searched} → x ≡ between_of f trip budget lent out → x ≡ asked_of f question budget lent out
   unfolding asked_of
   asks_inside e t x = x ∙ rw (t, ← asked, e)
 
-  pub asks_refused : {r : Refusal} → look ≡ Refused r → searched_of (refused r) lent out ≡ asked_of f question budget lent out
+  pub asks_refused : {r : Refusal} → look ≡ Err r → searched_of (refused r) lent out ≡ asked_of f question budget lent out
   unfolding asked_of
   asks_refused e = rw (← asked, e)
 
 -- ---- the floor
 
-module _ (slots : ℕ) (vs ps : List ℕ) {look : FloorLook} (looked : look ≡ floor_look_of slots vs ps) (question : List ℕ) (budget : ℕ) (lent : Lent)
-    (out : List ℕ) where
-  pub searches_floor : look ≡ Sound → {x : Searched} {s : ℕ} → s ≡ slots → x ≡ asked_of (floor_of s vs ps) question budget lent out
+module _ (slots : ℕ) (vs ps : List ℕ) {look : Result Unit Refusal} (looked : look ≡ floor_look_of slots vs ps) (question : List ℕ) (budget : ℕ)
+    (lent : Lent) (out : List ℕ) where
+  pub searches_floor : look ≡ Ok tt → {x : Searched} {s : ℕ} → s ≡ slots → x ≡ asked_of (floor_of s vs ps) question budget lent out
       → x ≡ search_of slots vs ps question budget lent out
   unfolding search_of asked_of look_of
   searches_floor e s x = x ∙ rw (s, ← looked, e)
 
-  pub searches_refused : {r : Refusal} → look ≡ Faulty r → searched_of (refused r) lent out ≡ search_of slots vs ps question budget lent out
+  pub searches_refused : {r : Refusal} → look ≡ Err r → searched_of (refused r) lent out ≡ search_of slots vs ps question budget lent out
   unfolding search_of look_of
   searches_refused e = rw (← looked, e)

@@ -7,8 +7,9 @@ use mathlib.Core.List.{List, ◌++◌}
 use borrow.Author.Tests.{ltb-false}
 use lib.Dec.{eqb, ltb}
 use lib.ListN.{length, drop}
-use Rattle.floor.specs.declared.Look.{Look}
-use Rattle.floor.specs.declared.Look.TheVariants.{Inside, Refused}
+use Rattle.std.specs.Prelude.{Result, Ok, Err}
+use Rattle.floor.specs.declared.Inside.{Inside}
+use Rattle.floor.specs.declared.Refusal.{Refusal}
 use Rattle.floor.specs.Look.{look_of}
 use Rattle.stored.specs.Stored.{Floor, floor_of, question_of}
 use Rattle.steps.specs.declared.Trip.{Trip}
@@ -74,8 +75,8 @@ pub found_fits : (s : ℕ) (vs ps question : List ℕ) (budget : ℕ) (lent : Le
 unfolding search_of
 found_fits s vs ps question budget lent out steps n = go (look_of s vs ps question)
   where
-    go : (look : Look)
+    go : (look : Result Inside Refusal)
         → (if_inside look lent out (λ p goal. between_of (floor_of s vs ps) (trip_of (question_of question) p goal) budget lent out)).answer ≡ Found steps n
         → n ≤ length out
-    go (Inside from to) e = between_fits (floor_of s vs ps) (trip_of (question_of question) from to) budget lent out steps n e
-    go (Refused r) e = let z : ◌≡◌ {A = ℕ} 0 1 = cc in absurd (omega arith)
+    go (Ok i) e = between_fits (floor_of s vs ps) (trip_of (question_of question) i.start i.goal) budget lent out steps n e
+    go (Err r) e = let z : ◌≡◌ {A = ℕ} 0 1 = cc in absurd (omega arith)

@@ -12,7 +12,7 @@ use Rattle.steps.specs.declared.Node.{Node}
 use Rattle.machine.specs.declared.Task.{Task}
 use Rattle.machine.specs.declared.Finish.{Finish}
 use Rattle.machine.specs.declared.Finish.TheVariants.{Arrived, Emptied, Filled, Stopped, Crowded}
-use Rattle.machine.specs.declared.Outcome.TheVariants.{Ends}
+use Rattle.std.specs.Prelude.{Some}
 use Rattle.places.specs.Layout.{words_per_place, Work, depth_at, parent_at}
 use Rattle.machine.specs.Search.{State}
 use Rattle.machine.specs.Sound.{Sound}
@@ -57,7 +57,7 @@ module _ (plan vs ps : List ℕ) (t : Task) (seed : Node) (s : State) (h : Sound
   }
 
   module _ (g : Ground plan vs ps) where
-    pub finish_tells : (finish : Finish) → Arrives plan vs ps t seed g s (Ends finish) → Tells w.floats w.words finish
+    pub finish_tells : (finish : Finish) → Arrives plan vs ps t seed g s (Some finish) → Tells w.floats w.words finish
     finish_tells (Arrived i) at = place_tellable i at.0
     finish_tells Emptied at = tt
     finish_tells Filled at = tt

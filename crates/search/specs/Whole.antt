@@ -1,9 +1,9 @@
 -- Document 01, the search from end to end: the tests, the search, and what is told. What comes back, and what each lent buffer holds then. Definitions only.
 -- Assumes nothing.
-use Rattle.std.specs.Prelude.{ℕ, cond, List, eqb}
+use Rattle.std.specs.Prelude.{ℕ, cond, List, eqb, Result, Ok, Err}
 use Rattle.stored.specs.Stored.{Floor, floor_of, question_of}
-use Rattle.floor.specs.declared.Look.{Look}
-use Rattle.floor.specs.declared.Look.TheVariants.{Inside, Refused}
+use Rattle.floor.specs.declared.Inside.{Inside}
+use Rattle.floor.specs.declared.Refusal.{Refusal}
 use Rattle.floor.specs.Look.{look_of, ask_of}
 use Rattle.steps.specs.declared.Trip.{Trip}
 use Rattle.steps.specs.World.{trip_of}
@@ -51,9 +51,9 @@ between_of f trip budget lent out =
     cond (eqb n 0) (searched_of NoPlaces lent out) (routed f (record { trip = trip; places = n }) budget lent out)
 
 -- "Up to 10 the work buffers stay too"
-abbrev pub if_inside : Look → Lent → List ℕ → (ℕ → ℕ → Searched) → Searched
-if_inside (Inside p goal) lent out search = search p goal
-if_inside (Refused r) lent out search = searched_of (refused r) lent out
+abbrev pub if_inside : Result Inside Refusal → Lent → List ℕ → (ℕ → ℕ → Searched) → Searched
+if_inside (Ok inside) lent out search = search inside.start inside.goal
+if_inside (Err r) lent out search = searched_of (refused r) lent out
 
 -- 7 to 9, of a floor that was accepted, and the search
 unfoldable pub asked_of : Floor → List ℕ → ℕ → Lent → List ℕ → Searched

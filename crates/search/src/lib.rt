@@ -4,14 +4,14 @@
 ghost use Rattle.std.specs.Prelude.{◌≡◌, true, ◌≤◌, ◌<◌};
 ghost use Rattle.point.specs.Point.{same_of};
 ghost use Rattle.plan.specs.Plan.{polygon_count_in};
-ghost use Rattle.stored.specs.Stored.{floor_in};
-ghost use Rattle.edges.specs.Ground.{Ground};
-ghost use Rattle.places.specs.Layout.{work_of, Room};
+ghost use Rattle.edges.specs.AcceptedFloor.{the_floor};
+ghost use Rattle.places.specs.Layout.{work_of, places_in, Room};
+ghost use Rattle.machine.specs.Buffers.{work_in, SameBuffers};
 ghost use Rattle.search.specs.Whole.{lent_of, searched_of, routed, between_of, asked_of, search_of};
 
-use floor::{FloorLook, Look};
-use machine::Task;
-use plan::PLAN;
+use edges::AcceptedFloor;
+use machine::{Buffers, Task};
+use plan::Plan;
 use popping::search_from;
 use steps::Trip;
 pub use writing::Answer;
@@ -20,72 +20,66 @@ use writing::{tell, write_straight};
 // The steps of a search without a budget.
 pub const DEFAULT_BUDGET: usize = 4096;
 
+// How many places were lent.
+fn places_of(work: &Buffers) -> usize
+    ensures { result ≡ places_in (work_in work.now) }
+{
+    places::places_in(work.floats, work.words, work.queue)
+}
+
 // The task's trip: start and goal in one polygon, or a search.
 fn route_from(
-    vertices: &[u8],
-    polygons: &[u8],
-    plan: &[u32; PLAN],
+    floor: &AcceptedFloor,
     task: Task,
     budget: usize,
-    floats: &mut [f32],
-    words: &mut [u32],
-    tree: &mut [u32],
+    work: &mut Buffers,
     table: &mut [u32],
     out: &mut [u8],
 ) -> Answer
-    requires ground { Ground plan.now vertices.now polygons.now × (task.trip.from < polygon_count_in plan.now) }
-    requires room { Room task.places (work_of floats.old words.old tree.old) × (1 ≤ task.places) }
+    requires ground { task.trip.from < polygon_count_in floor.now.plan.now }
+    requires room { Room task.places (work_in work.old) × (1 ≤ task.places) }
     requires start_value { same_of task.trip.start task.trip.start ≡ true }
-    ensures { let f = floor_in plan.now vertices.now polygons.now in
-        let before = lent_of (work_of floats.old words.old tree.old) table.old in
-        let after = lent_of (work_of floats.new words.new tree.new) table.new in
+    ensures searched { let f = the_floor floor.now in
+        let before = lent_of (work_in work.old) table.old in
+        let after = lent_of (work_in work.new) table.new in
         searched_of result after out.new ≡ routed f task budget before out.old }
+    ensures buffers { SameBuffers work.old work.new }
 {
     let trip = task.trip;
     if trip.from == trip.to {
         return write_straight(trip, out);
     }
-    let ended = search_from(
-        vertices, polygons, plan, task, budget, floats, words, tree, table,
-    );
-    tell(trip, ended, floats, words, out)
+    let ended = search_from(floor, task, budget, work, table);
+    tell(trip, ended, work, out)
 }
 
 // The trip with as many places as were lent.
 fn route_between(
-    vertices: &[u8],
-    polygons: &[u8],
-    plan: &[u32; PLAN],
+    floor: &AcceptedFloor,
     trip: Trip,
     budget: usize,
-    floats: &mut [f32],
-    words: &mut [u32],
-    tree: &mut [u32],
+    work: &mut Buffers,
     table: &mut [u32],
     out: &mut [u8],
 ) -> Answer
-    requires { Ground plan.now vertices.now polygons.now × (trip.from < polygon_count_in plan.now)
-        × (same_of trip.start trip.start ≡ true) }
-    ensures { let f = floor_in plan.now vertices.now polygons.now in
-        let before = lent_of (work_of floats.old words.old tree.old) table.old in
-        let after = lent_of (work_of floats.new words.new tree.new) table.new in
+    requires { (trip.from < polygon_count_in floor.now.plan.now) × (same_of trip.start trip.start ≡ true) }
+    ensures searched { let f = the_floor floor.now in
+        let before = lent_of (work_in work.old) table.old in
+        let after = lent_of (work_in work.new) table.new in
         searched_of result after out.new ≡ between_of f trip budget before out.old }
+    ensures buffers { SameBuffers work.old work.new }
 {
-    let places = places::places_in(floats, words, tree);
+    let places = places_of(work);
     if places == 0 {
         return Answer::NoPlaces;
     }
     let task = Task { trip, places };
-    route_from(
-        vertices, polygons, plan, task, budget, floats, words, tree, table, out,
-    )
+    route_from(floor, task, budget, work, table, out)
 }
 
-// One question of a floor that was accepted, by its plan.
+// One question of a floor that was accepted.
 pub fn search_on(
-    vertices: &[u8],
-    polygons: &[u8],
-    plan: &[u32; PLAN],
+    floor: &AcceptedFloor,
     question: &[u8],
     budget: usize,
     floats: &mut [f32],
@@ -94,21 +88,22 @@ pub fn search_on(
     table: &mut [u32],
     out: &mut [u8],
 ) -> Answer
-    requires { Ground plan.now vertices.now polygons.now }
-    ensures { let f = floor_in plan.now vertices.now polygons.now in
+    ensures { let f = the_floor floor.now in
         let before = lent_of (work_of floats.old words.old tree.old) table.old in
         let after = lent_of (work_of floats.new words.new tree.new) table.new in
         searched_of result after out.new ≡ asked_of f question.now budget before out.old }
 {
-    match floor::ask(vertices, polygons, plan, question) {
-        Look::Inside(from, to) => {
-            let trip = Trip::of(question, from as u32, to as u32);
-            route_between(
-                vertices, polygons, plan, trip, budget, floats, words, tree, table, out,
-            )
-        }
-        Look::Refused(refusal) => Answer::Refused(refusal),
-    }
+    let inside = match floor::ask(floor, question) {
+        Ok(inside) => inside,
+        Err(refusal) => return Answer::Refused(refusal),
+    };
+    let trip = Trip::of(question, inside.start as u32, inside.goal as u32);
+    let mut work = Buffers {
+        floats,
+        words,
+        queue: tree,
+    };
+    route_between(floor, trip, budget, &mut work, table, out)
 }
 
 // The search of document 01. Nothing is asked of the caller.
@@ -128,13 +123,16 @@ pub fn search(
         searched_of result after out.new
         ≡ search_of 8 vertices.now polygons.now question.now budget before out.old }
 {
-    let mut plan = [0u32; PLAN];
-    match floor::look_at_floor(vertices, polygons, &mut plan) {
-        FloorLook::Accepted => search_on(
-            vertices, polygons, &plan, question, budget, floats, words, tree, table, out,
-        ),
-        FloorLook::Faulty(refusal) => Answer::Refused(refusal),
+    let mut plan = Plan::new();
+    if let Err(refusal) = floor::look_at_floor(vertices, polygons, &mut plan) {
+        return Answer::Refused(refusal);
     }
+    let floor = AcceptedFloor {
+        vertices,
+        polygons,
+        plan: &plan,
+    };
+    search_on(&floor, question, budget, floats, words, tree, table, out)
 }
 
 // The search with the budget of document 01, 4,096 steps.

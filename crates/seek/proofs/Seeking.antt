@@ -6,13 +6,8 @@ use mathlib.Core.Bool.{Bool, true, false, not, cond, ◌&&◌, ◌||◌}
 use mathlib.Core.List.{List, [], ◌∷◌, ◌++◌}
 use borrow.Author.Tests.{eq-eqb, ne_eqb}
 use lib.Dec.{eqb}
-use Rattle.point.specs.declared.Point.{Point}
+use Rattle.std.specs.Prelude.{Option, Some, None}
 use Rattle.point.specs.declared.Segment.{Segment}
-use Rattle.point.specs.Point.{same_of}
-use Rattle.cone.specs.declared.Clipped.{Clipped}
-use Rattle.cone.specs.declared.Clipped.TheVariants.{Seen, Nothing}
-use Rattle.cone.specs.Cone.{clip_to_cone_of}
-use Rattle.cut.specs.declared.SuccessorType.{SuccessorType}
 use Rattle.walk.specs.declared.Walked.{Walked}
 use Rattle.walk.specs.declared.Part.{Part}
 use Rattle.walk.specs.declared.Successor.{Successor}
@@ -28,27 +23,13 @@ use Rattle.route.specs.declared.Step.{Step}
 use Rattle.route.specs.Step.{kind_number}
 use Rattle.records.specs.Records.{kind_word, polygon_word, first_word, second_word}
 use Rattle.steps.specs.declared.Node.{Node}
-use Rattle.steps.specs.declared.Permitted.{Permitted}
-use Rattle.steps.specs.declared.Permitted.TheVariants.{Yes, No}
-use Rattle.steps.specs.Steps.{is_interval, is_allowed, root_after, clipped, if_seen, step_of, and_then, steps_over, steps_from}
+use Rattle.steps.specs.Steps.{is_interval, is_allowed, clipped, if_seen, step_of, and_then, steps_over, steps_from}
 use Rattle.view.proofs.Seen.{allowed_by_plan}
 use Rattle.going.specs.Going.{begin_round, walked_on, left_in, Yielded, Stands, Goes}
 use Rattle.going.proofs.Rounds.{edges_left, begin_goes, next_goes, fewer_left, its_polygon}
 use Rattle.going.proofs.Left.{left_begin, steps_left_next, left_over}
 use Rattle.going.proofs.Parts.{from_part, successor_at, from_next, from_none}
 use Rattle.seek.specs.Seek.{is_step_at, is_among, edge_stands, ends_at, part_stands}
-
--- ---- what a node sees of an interval
-
-module _ (vertices : List Point) (node : Node) (kind : SuccessorType) (interval : Segment) (other : node.seed ≡ false)
-    {next : Point} (after : next ≡ root_after vertices node kind) {b : Bool} (same : b ≡ same_of next node.root) where
-  pub sees_clipped : {v : Clipped} → b ≡ true → v ≡ clip_to_cone_of node.root node.interval interval → v ≡ clipped vertices node kind interval
-  unfolding clipped
-  sees_clipped t e = rw (← after, ← same, t, other) e
-
-  pub sees_whole : b ≡ false → Seen interval ≡ clipped vertices node kind interval
-  unfolding clipped
-  sees_whole t = rw (← after, ← same, t, other)
 
 -- ---- one part of an edge
 
@@ -61,16 +42,16 @@ or_no true = refl
 or_no false = refl
 
 module _ (file : List ℕ) (i : ℕ) where
-  permitted_at : Permitted → Bool
-  permitted_at (Yes s) = is_step_at s file i
-  permitted_at No = false
+  permitted_at : Option Step → Bool
+  permitted_at (Some s) = is_step_at s file i
+  permitted_at None = false
 
   module _ (q : Polygon) (e : ℕ) (part : Part) where
     abbrev step : Segment → Step
     step interval = record { kind = part.kind; polygon = neighbour q e; first = corner q e; second = corner_after q e; interval = interval }
 
-    abbrev if_interval : Segment → Permitted
-    if_interval interval = cond (not (is_interval interval)) No (Yes (step interval))
+    abbrev if_interval : Segment → Option Step
+    if_interval interval = cond (not (is_interval interval)) None (Some (step interval))
 
     abbrev ends : Bool
     ends = eqb (first_word file i) (corner q e) && (eqb (second_word file i) (corner_after q e) && eqb (polygon_word file i) (neighbour q e))
@@ -79,19 +60,20 @@ module _ (file : List ℕ) (i : ℕ) where
     kinds = eqb (kind_word file i) (kind_number part.kind)
 
     ends_of : (interval : Segment) (b : Bool) → is_interval interval ≡ b
-        → ends && (kinds && ends_at (Seen interval) file i) ≡ permitted_at (cond (not b) No (Yes (step interval)))
+        → ends && (kinds && ends_at (Some interval) file i) ≡ permitted_at (cond (not b) None (Some (step interval)))
     unfolding permitted_at is_step_at ends_at
     ends_of interval true h = rw h
     ends_of interval false h = rw (h, and_no kinds) (and_no ends)
 
-    seen_of : (seen : Clipped) → ends && (kinds && ends_at seen file i) ≡ permitted_at (if_seen seen if_interval)
+    seen_of : (seen : Option Segment) → ends && (kinds && ends_at seen file i) ≡ permitted_at (if_seen seen if_interval)
     unfolding permitted_at ends_at
-    seen_of (Seen interval) = ends_of interval (is_interval interval) refl
-    seen_of Nothing = rw (and_no kinds) (and_no ends)
+    seen_of (Some interval) = ends_of interval (is_interval interval) refl
+    seen_of None = rw (and_no kinds) (and_no ends)
 
     -- what the code asks of an edge and of a part is what the step over it decides
-    asked_is : (wall allowed : Bool) (seen : Clipped)
-        → cond wall false ends && (kinds && (allowed && ends_at seen file i)) ≡ permitted_at (cond wall No (cond (not allowed) No (if_seen seen if_interval)))
+    asked_is : (wall allowed : Bool) (seen : Option Segment)
+        → cond wall false ends && (kinds && (allowed && ends_at seen file i))
+        ≡ permitted_at (cond wall None (cond (not allowed) None (if_seen seen if_interval)))
     unfolding permitted_at
     asked_is true allowed seen = refl
     asked_is false true seen = seen_of seen
@@ -108,10 +90,10 @@ module _ (file : List ℕ) (i : ℕ) where
 
   -- ---- some steps first
 
-  among_first : (p : Permitted) (rest : List Step) → is_among (and_then p rest) file i ≡ permitted_at p || is_among rest file i
+  among_first : (p : Option Step) (rest : List Step) → is_among (and_then p rest) file i ≡ permitted_at p || is_among rest file i
   unfolding is_among permitted_at
-  among_first (Yes s) rest = refl
-  among_first No rest = refl
+  among_first (Some s) rest = refl
+  among_first None rest = refl
 
   among_none : is_among [] file i ≡ false
   unfolding is_among

@@ -1,9 +1,8 @@
 -- Whether a record is a step, word by word, and whether it is one of a node's. proofs/Seeking says that it is the step over a part exactly where it is
 -- document 01's, and proofs/Reading that a record is one of the steps exactly where its bytes are. Assumes nothing.
-use Rattle.std.specs.Prelude.{ℕ, Bool, false, ◌&&◌, ◌||◌, cond, List, [], ◌∷◌, eqb}
+use Rattle.std.specs.Prelude.{ℕ, Bool, false, ◌&&◌, ◌||◌, cond, Option, Some, None, List, [], ◌∷◌, eqb}
 use Rattle.point.specs.declared.Point.{Point}
-use Rattle.cone.specs.declared.Clipped.{Clipped}
-use Rattle.cone.specs.declared.Clipped.TheVariants.{Seen, Nothing}
+use Rattle.point.specs.declared.Segment.{Segment}
 use Rattle.cone.specs.Landing.{lands_on_of}
 use Rattle.walk.specs.declared.Part.{Part}
 use Rattle.stored.specs.Stored.{Polygon, unused, corner, neighbour, corner_after, vertex_in}
@@ -36,9 +35,9 @@ edge_stands q e file i =
     (eqb (first_word file i) (corner q e) && (eqb (second_word file i) (corner_after q e) && eqb (polygon_word file i) (neighbour q e)))
 
 -- what is seen is an interval to step over, and the record's
-unfoldable pub ends_at : Clipped → List ℕ → ℕ → Bool
-ends_at (Seen interval) file i = is_interval interval && interval_stands interval file i
-ends_at Nothing file i = false
+unfoldable pub ends_at : Option Segment → List ℕ → ℕ → Bool
+ends_at (Some interval) file i = is_interval interval && interval_stands interval file i
+ends_at None file i = false
 
 -- "lands on its entry edge's first (second) vertex and that is a turn vertex"
 unfoldable pub turns_at : List Point → (ℕ → Bool) → ℕ → Point → Point → Bool

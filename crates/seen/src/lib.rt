@@ -44,11 +44,7 @@ pub enum Spot {
 pub fn entries_in(table: &[u32]) -> usize
     ensures { result ≡ entries_in table.now }
 {
-    let words = table.len();
-    if MOST_PLACES * ENTRY <= words {
-        return MOST_PLACES;
-    }
-    (words as u32 / 10) as usize
+    (table.len() / ENTRY).min(MOST_PLACES)
 }
 
 // No entry is used.
@@ -62,7 +58,7 @@ pub fn lay_out(table: &mut [u32])
 
 // The ten words by which a node is told apart.
 #[tactic(auto, unfolding(crate::specs::Table::key_of))]
-fn key_of(node: Node) -> [u32; 10]
+fn key_of(node: Node) -> [u32; ENTRY]
     ensures { result ≡ key_of node }
 {
     let root = node.root;
@@ -85,14 +81,12 @@ fn key_of(node: Node) -> [u32; 10]
 
 // The sum of the ten words, wrapped at 32 bits.
 #[tactic(auto, unfolding(crate::specs::Table::sum_to))]
-fn sum_of(key: &[u32; 10]) -> u32
+fn sum_of(key: &[u32; ENTRY]) -> u32
     ensures { result ≡ sum_to key.now words_per_entry }
 {
-    let mut sum = 0;
-    let mut k = 0;
-    while k < 10 {
-        sum = std::num::wrapping_add_u32(sum, key[k]);
-        k += 1;
+    let mut sum: u32 = 0;
+    for word in key {
+        sum = sum.wrapping_add(*word);
     }
     sum
 }
@@ -108,17 +102,15 @@ fn is_used(table: &[u32], j: usize) -> bool
 
 // Whether all ten words of an entry are those of the key.
 #[tactic(auto, unfolding(crate::specs::Table::entry_word))]
-fn holds(table: &[u32], j: usize, key: &[u32; 10]) -> bool
+fn holds(table: &[u32], j: usize, key: &[u32; ENTRY]) -> bool
     requires { (j + 1) * words_per_entry ≤ length table.now }
     ensures { result ≡ holds table.now key.now j }
 {
     let row = j * ENTRY;
-    let mut k = 0;
-    while k < 10 {
+    for k in 0..ENTRY {
         if table[row + k] != key[k] {
             return false;
         }
-        k += 1;
     }
     true
 }
@@ -136,7 +128,7 @@ fn next(entries: usize, j: usize) -> usize
 }
 
 // Looks a key up: from the slot that its sum gives to the entry that holds it, or to an unused one, or all the way round.
-fn look_up(table: &[u32], key: &[u32; 10]) -> Spot
+fn look_up(table: &[u32], key: &[u32; ENTRY]) -> Spot
     ensures { let held = table.now in result ≡ found_in held key.now (entries_in held) }
 {
     let entries = entries_in(table);
@@ -144,31 +136,27 @@ fn look_up(table: &[u32], key: &[u32; 10]) -> Spot
         return Spot::Nowhere;
     }
     let mut j = (sum_of(key) % entries as u32) as usize;
-    let mut i = 0;
-    while i < entries {
-        if is_used(table, j) == false {
+    for _ in 0..entries {
+        if !is_used(table, j) {
             return Spot::Free(j);
         }
         if holds(table, j, key) {
             return Spot::Held;
         }
         j = next(entries, j);
-        i += 1;
     }
     Spot::Nowhere
 }
 
 // Stores a key as an entry.
 #[tactic(auto, unfolding(crate::specs::Table::stored_to, crate::specs::Table::entry_put))]
-fn put_entry(table: &mut [u32], j: usize, key: &[u32; 10])
+fn put_entry(table: &mut [u32], j: usize, key: &[u32; ENTRY])
     requires { (j + 1) * words_per_entry ≤ length table.old }
     ensures { table.new ≡ entry_put table.old j key.now }
 {
     let row = j * ENTRY;
-    let mut k = 0;
-    while k < 10 {
+    for k in 0..ENTRY {
         table[row + k] = key[k];
-        k += 1;
     }
 }
 
@@ -179,7 +167,7 @@ pub fn remember(recording: bool, table: &mut [u32], node: Node) -> Entry
     requires key { IsKey (key_of node) }
     ensures { remembered_of result table.new ≡ remembered recording table.old (key_of node) }
 {
-    if recording == false {
+    if !recording {
         return Entry::New;
     }
     let key = key_of(node);

@@ -1,22 +1,16 @@
 -- Document 01, "Fixed examples": the starred ones, in its order, as one table of what is asked and what is to come out. Each function is meant as its
 -- definition, which its contract equals. Assumes nothing.
-use Rattle.std.specs.Prelude.{ℕ, ◌≡◌, List, [], ◌∷◌, Float}
+use Rattle.std.specs.Prelude.{ℕ, ◌≡◌, Option, Some, None, List, [], ◌∷◌, Float}
 use Rattle.std.specs.Float.{binary32}
 use Rattle.std.specs.Float.Ieee.{of_bits, to_bits}
 use Rattle.point.specs.declared.Point.{Point}
 use Rattle.point.specs.declared.Segment.{Segment}
 use Rattle.point.specs.declared.EdgeSide.{EdgeSide}
 use Rattle.point.specs.declared.EdgeSide.TheVariants.{Left, Right, Edge}
-use Rattle.helpers.specs.declared.Crossing.{Crossing}
-use Rattle.helpers.specs.declared.Crossing.TheVariants.{At, Nowhere}
-use Rattle.helpers.specs.declared.Turn.{Turn}
-use Rattle.helpers.specs.declared.Turn.TheVariants.{Around}
 use Rattle.point.specs.Numbers.{0', half, 1', 2', 3', 4', -1', -3'}
 use Rattle.point.specs.Point.{from_bits_of}
 use Rattle.point.specs.Sides.{side_of}
 use Rattle.helpers.specs.Helpers.{intersection_time_of, line_intersect_segment_of, heuristic_of, turning_point_of}
-use Rattle.cone.specs.declared.Clipped.{Clipped}
-use Rattle.cone.specs.declared.Clipped.TheVariants.{Nothing}
 use Rattle.cone.specs.Cone.{clip_to_cone_of}
 use Rattle.root.specs.Root.{root_of}
 
@@ -42,11 +36,11 @@ line a b c d = (from_bits_of a b, from_bits_of c d)
 
 pub data Row : Type 0 where
   side : Point → Segment → EdgeSide → Row
-  meets : Segment → Segment → Crossing → Row
+  meets : Segment → Segment → Option Point → Row
   time : Segment → Segment → Float → Row
   heuristic : Point → Point → Segment → Float → Row
-  turning_point : Point → Point → Segment → Turn → Row
-  clip : Point → Segment → Segment → Clipped → Row
+  turning_point : Point → Point → Segment → Option Point → Row
+  clip : Point → Segment → Segment → Option Segment → Row
   root : ℕ → ℕ → Row
 
 abbrev pub Holds : Row → Type 0
@@ -72,15 +66,15 @@ table =
     ∷ side (from_bits_of 0' below_epsilon') (line 0' 0' 1' 0') Edge
     ∷ side (from_bits_of 0' nan') (line 0' 0' 1' 0') Right
     -- "(0,0)-(2,2) meets (2,0)-(0,2) at (1,1), time 0.5. (0,0)-(1,0) and itself: none."
-    ∷ meets (line 0' 0' 2' 2') (line 2' 0' 0' 2') (At (from_bits_of 1' 1'))
+    ∷ meets (line 0' 0' 2' 2') (line 2' 0' 0' 2') (Some (from_bits_of 1' 1'))
     ∷ time (line 0' 0' 2' 2') (line 2' 0' 0' 2') (f32 half)
-    ∷ meets (line 0' 0' 1' 0') (line 0' 0' 1' 0') Nowhere
+    ∷ meets (line 0' 0' 1' 0') (line 0' 0' 1' 0') None
     -- "Interval (1,2),(−1,2), root (0,0): heuristic to (0,4) is 4, to (0,1) 3; turning_point for (4,4) (1,2)."
     ∷ heuristic (from_bits_of 0' 0') (from_bits_of 0' 4') (line 1' 2' -1' 2') (f32 4')
     ∷ heuristic (from_bits_of 0' 0') (from_bits_of 0' 1') (line 1' 2' -1' 2') (f32 3')
-    ∷ turning_point (from_bits_of 0' 0') (from_bits_of 4' 4') (line 1' 2' -1' 2') (Around (from_bits_of 1' 2'))
+    ∷ turning_point (from_bits_of 0' 0') (from_bits_of 4' 4') (line 1' 2' -1' 2') (Some (from_bits_of 1' 2'))
     -- "Clip, root (0,0), cone (1,0),(0,1): (2,−3),(3,−3) none."
-    ∷ clip (from_bits_of 0' 0') (line 1' 0' 0' 1') (line 2' -3' 3' -3') Nothing
+    ∷ clip (from_bits_of 0' 0') (line 1' 0' 0' 1') (line 2' -3' 3' -3') None
     -- "root of 2 is 0x3FB504F3; of 0x00000001, 0x1A3504F3."
     ∷ root 2' 0x3FB504F3
     ∷ root 0x00000001 0x1A3504F3

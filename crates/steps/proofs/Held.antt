@@ -6,11 +6,11 @@ use mathlib.Core.List.{List, [], ◌∷◌}
 use mathlib.Core.Logic.{inl, inr}
 use lib.Ieee.{binary32, nan, lt}
 use lib.Ieee.Fits.{add-fits, nan-fits}
+use Rattle.std.specs.Prelude.{Some}
 use Rattle.counts.specs.Counts.{table}
 use Rattle.point.specs.declared.Point.{Point}
 use Rattle.point.specs.declared.Segment.{Segment}
 use Rattle.point.specs.Point.{slack, point_of, plus_of, same_of}
-use Rattle.cone.specs.declared.Clipped.TheVariants.{Seen}
 use Rattle.cone.specs.Cone.{clip_to_cone_of}
 use Rattle.cone.specs.Sight.{right_length, left_length}
 use Rattle.cone.proofs.Clip.{clip_short_ray, clip_ends}
@@ -82,10 +82,10 @@ candidates_held f node = go node.seed
 
 -- ---- the clip
 
-clip_held : (root : Point) (cone segment seen : Segment) → HeldSegment segment → clip_to_cone_of root cone segment ≡ Seen seen → HeldSegment seen
+clip_held : (root : Point) (cone segment seen : Segment) → HeldSegment segment → clip_to_cone_of root cone segment ≡ Some seen → HeldSegment seen
 clip_held root cone segment seen h e = go (lt (right_length root cone) slack) refl (lt (left_length root cone) slack) refl
   where
-    given : clip_to_cone_of root cone segment ≡ Seen segment → HeldSegment seen
+    given : clip_to_cone_of root cone segment ≡ Some segment → HeldSegment seen
     given k = let same : segment ≡ seen = cc in subst HeldSegment same h
 
     go : (a : Bool) → lt (right_length root cone) slack ≡ a → (b : Bool) → lt (left_length root cone) slack ≡ b → HeldSegment seen
@@ -98,10 +98,10 @@ clip_held root cone segment seen h e = go (lt (right_length root cone) slack) re
         )
 
 pub clipped_held : (f : Floor) (node : Node) (kind : SuccessorType) (interval seen : Segment) → HeldSegment interval
-    → clipped f.vertices node kind interval ≡ Seen seen → HeldSegment seen
+    → clipped f.vertices node kind interval ≡ Some seen → HeldSegment seen
 unfolding clipped
 clipped_held f node kind interval seen h e = go (not node.seed && same_of (root_after f.vertices node kind) node.root) e
   where
-    go : (b : Bool) → cond b (clip_to_cone_of node.root node.interval interval) (Seen interval) ≡ Seen seen → HeldSegment seen
+    go : (b : Bool) → cond b (clip_to_cone_of node.root node.interval interval) (Some interval) ≡ Some seen → HeldSegment seen
     go true e = clip_held node.root node.interval interval seen h e
     go false e = let same : interval ≡ seen = cc in subst HeldSegment same h

@@ -1,22 +1,19 @@
 -- What a step is made of: the edge of a polygon with a neighbour across, and an interval that its candidate gave. Assumes nothing.
 use Prim.Native.Nat.{ℕ}
-use native.Mathlib.Omega.{arith}
 use mathlib.Core.Path.{◌≡◌, refl, sym, ap, ◌∙◌}
 use mathlib.Core.Bool.{Bool, true, false, not, cond}
 use mathlib.Core.List.{List, [], ◌∷◌}
 use borrow.Author.Tests.{eqb-false}
 use lib.Dec.{eqb}
+use Rattle.std.specs.Prelude.{Option, Some, None}
+use Rattle.std.proofs.lemmas.Option.{none-some, same_Some}
 use Rattle.point.specs.declared.Segment.{Segment}
-use Rattle.cone.specs.declared.Clipped.{Clipped}
-use Rattle.cone.specs.declared.Clipped.TheVariants.{Seen, Nothing}
 use Rattle.walk.specs.declared.Successor.{Successor}
 use Rattle.stored.specs.Stored.{Floor, unused, corner, neighbour, corner_after, polygon}
 use Rattle.edges.specs.Where.{is_turn}
 use Rattle.route.specs.declared.Step.{Step}
 use Rattle.route.specs.World.{◌∈◌}
 use Rattle.steps.specs.declared.Node.{Node}
-use Rattle.steps.specs.declared.Permitted.{Permitted}
-use Rattle.steps.specs.declared.Permitted.TheVariants.{Yes, No}
 use Rattle.steps.specs.Steps.{is_interval, is_allowed, clipped, if_seen, step_of, candidates, and_then, steps_over, steps_from}
 use Rattle.walk.proofs.All.{All, all_in}
 
@@ -30,12 +27,8 @@ pub record Over (f : Floor) (node : Node) (s : Successor) (t : Step) : Type 0 wh
   pub its_first : t.first ≡ corner (polygon f node.polygon) s.edge
   pub its_second : t.second ≡ corner_after (polygon f node.polygon) s.edge
   pub allowed : is_allowed f.vertices (is_turn f) node s.part.kind ≡ true
-  pub seen : clipped f.vertices node s.part.kind s.part.interval ≡ Seen t.interval
+  pub seen : clipped f.vertices node s.part.kind s.part.interval ≡ Some t.interval
   pub interval : is_interval t.interval ≡ true
-
--- No is not Yes
-no_yes : {A : Type 0} {t : Step} → No ≡ Yes t → A
-no_yes e = let z : ◌≡◌ {A = ℕ} 0 1 = cc in absurd (omega arith)
 
 module _ (f : Floor) (node : Node) (s : Successor) (t : Step) where
   abbrev made : Segment → Step
@@ -49,10 +42,10 @@ module _ (f : Floor) (node : Node) (s : Successor) (t : Step) where
 
   over : (interval : Segment) → eqb (neighbour (polygon f node.polygon) s.edge) unused ≡ false
       → is_allowed f.vertices (is_turn f) node s.part.kind ≡ true
-      → clipped f.vertices node s.part.kind s.part.interval ≡ Seen interval → is_interval interval ≡ true
-      → Yes (made interval) ≡ Yes t → Over f node s t
+      → clipped f.vertices node s.part.kind s.part.interval ≡ Some interval → is_interval interval ≡ true
+      → Some (made interval) ≡ Some t → Over f node s t
   over interval u a c i e =
-      let k : made interval ≡ t = cc in
+      let k : made interval ≡ t = same_Some _ t e in
       record {
         used = eqb-false _ _ u;
         its_kind = ap (λ (x : Step). x.kind) (sym k);
@@ -60,11 +53,11 @@ module _ (f : Floor) (node : Node) (s : Successor) (t : Step) where
         its_first = ap (λ (x : Step). x.first) (sym k);
         its_second = ap (λ (x : Step). x.second) (sym k);
         allowed = a;
-        seen = c ∙ ap (λ (x : Step). Seen x.interval) k;
+        seen = c ∙ ap (λ (x : Step). Some x.interval) k;
         interval = sym (ap (λ (x : Step). is_interval x.interval) k) ∙ i;
       }
 
-  pub yes_tells : step_of f node s ≡ Yes t → Over f node s t
+  pub yes_tells : step_of f node s ≡ Some t → Over f node s t
   unfolding step_of
   yes_tells e =
       go (eqb (neighbour (polygon f node.polygon) s.edge) unused) refl (is_allowed f.vertices (is_turn f) node s.part.kind) refl
@@ -72,34 +65,34 @@ module _ (f : Floor) (node : Node) (s : Successor) (t : Step) where
     where
       last : (interval : Segment) (b : Bool) → is_interval interval ≡ b → eqb (neighbour (polygon f node.polygon) s.edge) unused ≡ false
           → is_allowed f.vertices (is_turn f) node s.part.kind ≡ true
-          → clipped f.vertices node s.part.kind s.part.interval ≡ Seen interval → cond (not b) No (Yes (made interval)) ≡ Yes t
+          → clipped f.vertices node s.part.kind s.part.interval ≡ Some interval → cond (not b) None (Some (made interval)) ≡ Some t
           → Over f node s t
       last interval true i u a c e = over interval u a c i e
-      last interval false i u a c e = no_yes e
+      last interval false i u a c e = absurd (none-some t e)
 
       go : (b : Bool) → eqb (neighbour (polygon f node.polygon) s.edge) unused ≡ b → (a : Bool)
-          → is_allowed f.vertices (is_turn f) node s.part.kind ≡ a → (c : Clipped)
+          → is_allowed f.vertices (is_turn f) node s.part.kind ≡ a → (c : Option Segment)
           → clipped f.vertices node s.part.kind s.part.interval ≡ c
-          → cond b No (cond (not a) No (if_seen c (λ interval. cond (not (is_interval interval)) No (Yes (made interval))))) ≡ Yes t → Over f node s t
-      go true u a d c k e = no_yes e
-      go false u false d c k e = no_yes e
-      go false u true d Nothing k e = no_yes e
-      go false u true d (Seen interval) k e = last interval (is_interval interval) refl u d k e
+          → cond b None (cond (not a) None (if_seen c (λ interval. cond (not (is_interval interval)) None (Some (made interval))))) ≡ Some t → Over f node s t
+      go true u a d c k e = absurd (none-some t e)
+      go false u false d c k e = absurd (none-some t e)
+      go false u true d None k e = absurd (none-some t e)
+      go false u true d (Some interval) k e = last interval (is_interval interval) refl u d k e
 
 -- ---- all of them
 
 -- what holds of the step over each candidate holds of every step
 module _ (f : Floor) (node : Node) (P : Step → Type 0) where
-  pub every_step : (cs : List Successor) → All (λ s. (t : Step) → step_of f node s ≡ Yes t → P t) cs → All P (steps_over f node cs)
+  pub every_step : (cs : List Successor) → All (λ s. (t : Step) → step_of f node s ≡ Some t → P t) cs → All P (steps_over f node cs)
   unfolding steps_over
   every_step [] a = tt
   every_step (c ∷ cs) a = go (step_of f node c) refl (every_step cs a.1)
     where
-      go : (p : Permitted) → step_of f node c ≡ p → All P (steps_over f node cs) → All P (and_then p (steps_over f node cs))
-      go (Yes t) e b = (a.0 t e, b)
-      go No e b = b
+      go : (p : Option Step) → step_of f node c ≡ p → All P (steps_over f node cs) → All P (and_then p (steps_over f node cs))
+      go (Some t) e b = (a.0 t e, b)
+      go None e b = b
 
-  pub every_step_from : (goal : ℕ) → All (λ s. (t : Step) → step_of f node s ≡ Yes t → P t) (candidates f node) → (t : Step)
+  pub every_step_from : (goal : ℕ) → All (λ s. (t : Step) → step_of f node s ≡ Some t → P t) (candidates f node) → (t : Step)
       → t ∈ steps_from f goal node → P t
   unfolding steps_from
   every_step_from goal a t m = go (eqb node.polygon goal) m

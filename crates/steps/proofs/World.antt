@@ -7,6 +7,7 @@ use mathlib.Core.Bool.{Bool, true, false, cond}
 use mathlib.Core.List.{List, []}
 use lib.Dec.{eqb}
 use lib.ListN.{length, get_or, get_or-eq_default}
+use Rattle.std.specs.Prelude.{Some}
 use Rattle.word.specs.Word.{Bytes}
 use Rattle.word.proofs.Laws.{word_below}
 use Rattle.counts.specs.Counts.{table}
@@ -19,7 +20,6 @@ use Rattle.route.specs.World.{Lawful, ◌∈◌}
 use Rattle.route.proofs.Bytes.{seed_is_32, end_is_32}
 use Rattle.steps.specs.declared.Trip.{Trip}
 use Rattle.steps.specs.declared.Node.{Node}
-use Rattle.steps.specs.declared.Permitted.TheVariants.{Yes}
 use Rattle.steps.specs.Steps.{step_of, steps_from, candidates}
 use Rattle.steps.specs.World.{is_in_goal, world_in}
 use Rattle.walk.proofs.All.{all_turned}
@@ -102,7 +102,7 @@ module _ (s : ℕ) (vs ps : List ℕ) (bytes : Bytes ps) where
   pub steps_are_held : (goal : ℕ) (node : Node) (t : Step) → t ∈ steps_from f goal node → Held t
   steps_are_held goal node t m =
       every_step_from f node Held goal
-      (all_turned HeldSuccessor (λ c. (t : Step) → step_of f node c ≡ Yes t → Held t) (candidates f node)
+      (all_turned HeldSuccessor (λ c. (t : Step) → step_of f node c ≡ Some t → Held t) (candidates f node)
       (λ c h t e. over_held node c h t (yes_tells f node c t e)) (candidates_held f node))
       t m
 

@@ -1,13 +1,11 @@
 -- Document 01, "A permitted step": which steps lead out of a node, in order. Rests on the floor, the walk and the clip. Assumes nothing.
-use Rattle.std.specs.Prelude.{ℕ, ◌+◌, Bool, true, false, not, ◌&&◌, cond, List, [], ◌∷◌, eqb, Float}
+use Rattle.std.specs.Prelude.{ℕ, ◌+◌, Bool, true, false, not, ◌&&◌, cond, List, [], ◌∷◌, Option, Some, None, eqb, Float}
 use Rattle.std.specs.Float.{binary32}
 use Rattle.std.specs.Float.Ieee.{of_bits, neg, le, add}
 use Rattle.counts.specs.Counts.{first, table}
 use Rattle.point.specs.declared.Point.{Point}
 use Rattle.point.specs.declared.Segment.{Segment}
 use Rattle.point.specs.Point.{zero, same_of, distance_of}
-use Rattle.cone.specs.declared.Clipped.{Clipped}
-use Rattle.cone.specs.declared.Clipped.TheVariants.{Seen, Nothing}
 use Rattle.cone.specs.Cone.{clip_to_cone_of}
 use Rattle.cone.specs.Landing.{lands_on_of}
 use Rattle.cut.specs.declared.SuccessorType.{SuccessorType}
@@ -18,8 +16,6 @@ use Rattle.stored.specs.Stored.{Floor, Polygon, unused, corner, neighbour, corne
 use Rattle.edges.specs.Where.{is_turn}
 use Rattle.route.specs.declared.Step.{Step}
 use Rattle.steps.specs.declared.Node.{Node}
-use Rattle.steps.specs.declared.Permitted.{Permitted}
-use Rattle.steps.specs.declared.Permitted.TheVariants.{Yes, No}
 
 -- ---- intervals
 
@@ -76,31 +72,31 @@ root_after vertices node RightNonObservable = vertex_in vertices node.first
 root_after vertices node LeftNonObservable = vertex_in vertices node.second
 
 -- "If the root is unchanged by ==, and the node is not the seed, the interval is clipped; none is no step."
-unfoldable pub clipped : List Point → Node → SuccessorType → Segment → Clipped
+unfoldable pub clipped : List Point → Node → SuccessorType → Segment → Option Segment
 clipped vertices node kind interval =
-    cond (not node.seed && same_of (root_after vertices node kind) node.root) (clip_to_cone_of node.root node.interval interval) (Seen interval)
+    cond (not node.seed && same_of (root_after vertices node kind) node.root) (clip_to_cone_of node.root node.interval interval) (Some interval)
 
-abbrev pub if_seen : Clipped → (Segment → Permitted) → Permitted
-if_seen (Seen interval) step = step interval
-if_seen Nothing step = No
+abbrev pub if_seen : Option Segment → (Segment → Option Step) → Option Step
+if_seen (Some interval) step = step interval
+if_seen None step = None
 
 -- ".. whose edge has a neighbour": over a wall there is no step.
-unfoldable pub step_of : Floor → Node → Successor → Permitted
+unfoldable pub step_of : Floor → Node → Successor → Option Step
 step_of f node s =
     let q = polygon f node.polygon in
     let kind = s.part.kind in
-    cond (eqb (neighbour q s.edge) unused) No
-    (cond (not (is_allowed f.vertices (is_turn f) node kind)) No
+    cond (eqb (neighbour q s.edge) unused) None
+    (cond (not (is_allowed f.vertices (is_turn f) node kind)) None
     (if_seen (clipped f.vertices node kind s.part.interval)
     (λ interval.
-    cond (not (is_interval interval)) No
-    (Yes (record { kind = kind; polygon = neighbour q s.edge; first = corner q s.edge; second = corner_after q s.edge; interval = interval })))))
+    cond (not (is_interval interval)) None
+    (Some (record { kind = kind; polygon = neighbour q s.edge; first = corner q s.edge; second = corner_after q s.edge; interval = interval })))))
 
 -- ---- the steps out of a node
 
-abbrev pub and_then : Permitted → List Step → List Step
-and_then (Yes step) rest = step ∷ rest
-and_then No rest = rest
+abbrev pub and_then : Option Step → List Step → List Step
+and_then (Some step) rest = step ∷ rest
+and_then None rest = rest
 
 -- the steps over these, in order
 unfoldable pub steps_over : Floor → Node → List Successor → List Step

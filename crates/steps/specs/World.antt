@@ -1,14 +1,13 @@
 -- The world of a floor and a question: what search and judge walk in. Document 01, "A permitted step" and "The route file", put together; and how a route ends.
 -- Assumes nothing.
-use Rattle.std.specs.Prelude.{ℕ, ◌+◌, Bool, cond, eqb}
+use Rattle.std.specs.Prelude.{ℕ, ◌+◌, Bool, cond, Option, Some, None, eqb}
 use Rattle.std.specs.Float.{binary32}
 use Rattle.std.specs.Float.Ieee.{add}
 use Rattle.point.specs.declared.Point.{Point}
-use Rattle.helpers.specs.declared.Turn.{Turn}
-use Rattle.helpers.specs.declared.Turn.TheVariants.{Around, Straight}
 use Rattle.point.specs.Point.{distance_of}
 use Rattle.helpers.specs.Helpers.{turning_point_of}
-use Rattle.stored.specs.Stored.{Floor, Question}
+use Rattle.stored.specs.Stored.{Floor}
+use Rattle.stored.specs.declared.Question.{Question}
 use Rattle.edges.specs.Where.{polygon_of}
 use Rattle.route.specs.Record.{seed_bytes, end_bytes}
 use Rattle.route.specs.World.{World}
@@ -19,14 +18,14 @@ use Rattle.steps.specs.Steps.{steps_from, seed_node, enter}
 
 -- ---- the end: "then turning_point if any; then the goal"
 
-abbrev pub last_leg : Point → Node → Turn → Ending
-last_leg goal node (Around point) =
+abbrev pub last_leg : Point → Node → Option Point → Ending
+last_leg goal node (Some point) =
     record { points = node.points + 2; length = add binary32 (add binary32 node.length (distance_of node.root point)) (distance_of point goal) }
-last_leg goal node Straight = record { points = node.points + 1; length = add binary32 node.length (distance_of node.root goal) }
+last_leg goal node None = record { points = node.points + 1; length = add binary32 node.length (distance_of node.root goal) }
 
 -- "With no step in the chain the goal is the only point."
 unfoldable pub ending_of : Point → Node → Ending
-ending_of goal node = cond node.seed (last_leg goal node Straight) (last_leg goal node (turning_point_of node.root goal node.interval))
+ending_of goal node = cond node.seed (last_leg goal node None) (last_leg goal node (turning_point_of node.root goal node.interval))
 
 -- ---- the world
 

@@ -7,9 +7,9 @@ ghost use Rattle.steps.specs.Steps.{seed_node, root_after, enter};
 ghost use Rattle.steps.specs.World.{ending_of, trip_of};
 
 use cut::SuccessorType;
-use helpers::Turn;
 use point::{Point, Segment};
 use route::Step;
+use stored::Question;
 
 // What is asked of a floor: from a start in this polygon to a goal in that one.
 #[derive(Clone, Copy)]
@@ -44,22 +44,16 @@ pub struct Ending {
     pub length: f32,
 }
 
-// The step over a part of an edge, if there is one.
-#[derive(Clone, Copy)]
-pub enum Permitted {
-    Yes(Step),
-    No,
-}
-
 impl Trip {
     // What a question asks, once it is known in which polygons its start and its goal are.
     pub fn of(question: &[u8], from: u32, to: u32) -> Trip
         requires { length question.now ≡ 16 }
         ensures { result ≡ trip_of (question_of question.now) from to }
     {
+        let asked = Question::read(question);
         Trip {
-            start: stored::question_start(question),
-            goal: stored::question_goal(question),
+            start: asked.start,
+            goal: asked.goal,
             from,
             to,
         }
@@ -85,7 +79,7 @@ impl Node {
     }
 
     // The root after a step of this kind: the vertex that the way turns at, if it turns.
-    #[tactic(auto, unfolding(crate::specs::Steps::root_after))]
+    #[tactic(auto, unfolding(crate::specs::Steps::root_after), using(stored::proofs::Records::vertex_used))]
     pub fn root_after(self, vertices: &[u8], kind: SuccessorType) -> Point
         requires { (self.first < vertex_count vertices.now) × (self.second < vertex_count vertices.now) }
         ensures { result ≡ root_after (vertices_of vertices.now) self kind }
@@ -102,23 +96,21 @@ impl Node {
     }
 
     // Where a step leads to. Where the root is another one, the way has one more point and one more leg.
-    #[tactic(auto, unfolding(crate::specs::Steps::enter))]
+    #[tactic(auto, unfolding(crate::specs::Steps::enter, point::specs::Point::same_of))]
     pub fn enter(self, vertices: &[u8], step: Step) -> Node
         requires { (self.first < vertex_count vertices.now) × (self.second < vertex_count vertices.now) × (self.points + 1 < 2 ^ 32) }
         ensures { result ≡ enter (vertices_of vertices.now) self step }
     {
-        let kind = step.kind;
-        let interval = step.interval;
-        let root = self.root_after(vertices, kind);
+        let root = self.root_after(vertices, step.kind);
         let old = self.root;
-        if root.same(old) {
+        if root == old {
             return Node {
                 seed: false,
                 left: self.polygon,
                 polygon: step.polygon,
                 first: step.first,
                 second: step.second,
-                interval,
+                interval: step.interval,
                 root,
                 length: self.length,
                 points: self.points,
@@ -130,7 +122,7 @@ impl Node {
             polygon: step.polygon,
             first: step.first,
             second: step.second,
-            interval,
+            interval: step.interval,
             root,
             length: self.length + old.distance(root),
             points: self.points + 1,
@@ -151,14 +143,12 @@ impl Node {
                 length: self.length + root.distance(goal),
             };
         }
-        let interval = self.interval;
-        let turn = helpers::turning_point(root, goal, interval);
-        match turn {
-            Turn::Around(point) => Ending {
+        match helpers::turning_point(root, goal, self.interval) {
+            Some(point) => Ending {
                 points: self.points + 2,
                 length: self.length + root.distance(point) + point.distance(goal),
             },
-            Turn::Straight => Ending {
+            None => Ending {
                 points: self.points + 1,
                 length: self.length + root.distance(goal),
             },

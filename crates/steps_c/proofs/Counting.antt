@@ -7,6 +7,7 @@ use mathlib.Core.Bool.{true, false}
 use mathlib.Core.List.{List, [], ◌∷◌, ◌++◌}
 use borrow.Author.Tests.{eq-eqb, ne_eqb}
 use lib.ListN.{drop}
+use Rattle.std.specs.Prelude.{Option, Some, None, Result, Ok, Err}
 use Rattle.walk.specs.declared.Part.{Part}
 use Rattle.walk.specs.declared.Walked.{Walked}
 use Rattle.walk.specs.declared.round.Round.{Round}
@@ -18,8 +19,6 @@ use Rattle.stored.specs.Stored.{Floor, Polygon, vertices_of, floor_in, record_in
 use Rattle.route.specs.declared.Step.{Step}
 use Rattle.steps.specs.declared.Node.{Node}
 use Rattle.view.specs.declared.View.{View}
-use Rattle.steps.specs.declared.Permitted.{Permitted}
-use Rattle.steps.specs.declared.Permitted.TheVariants.{Yes, No}
 use Rattle.steps.specs.Steps.{step_of, and_then, steps_over, steps_from}
 use Rattle.view.specs.View.{view_of, step_by}
 use Rattle.plan.specs.Plan.{is_marked}
@@ -27,38 +26,36 @@ use Rattle.edges.specs.Ground.{Ground}
 use Rattle.going.specs.Going.{begin_round, walked_on, left_in, Yielded, Stands, Goes}
 use Rattle.going.proofs.Left.{next_part, no_part_lem, left_begin, steps_left_next, left_over}
 use Rattle.going.proofs.Stepping.{step_on}
-use Rattle.steps_c.specs.declared.kth.Counted.{Counted}
-use Rattle.steps_c.specs.declared.kth.Counted.TheVariants.{Here, Further}
 use Rattle.steps_c.specs.Kth.{kth, counted_of, further, counted_on}
 
 -- ---- some steps first
 
-abbrev among : Counted → List Step → Permitted
-among (Here s) rest = Yes s
-among (Further k) rest = kth rest k
+abbrev among : Result Step ℕ → List Step → Option Step
+among (Ok s) rest = Some s
+among (Err k) rest = kth rest k
 
-kth_first : (p : Permitted) (rest : List Step) (k : ℕ) → kth (and_then p rest) k ≡ among (counted_of p k) rest
+kth_first : (p : Option Step) (rest : List Step) (k : ℕ) → kth (and_then p rest) k ≡ among (counted_of p k) rest
 unfolding kth counted_of
-kth_first (Yes s) rest zero = refl
-kth_first (Yes s) rest (suc k) =
+kth_first (Some s) rest zero = refl
+kth_first (Some s) rest (suc k) =
     let e : suc k - 1 ≡ k = omega arith in
     rw (ne_eqb (suc k) 0 (λ z. omega arith), e)
-kth_first No rest k = refl
+kth_first None rest k = refl
 
 -- a count over some steps goes on in those behind them
-kth_both : (p : Permitted) (xs ys : List Step) (next : ℕ → Counted) → ((k : ℕ) → kth (xs ++ ys) k ≡ among (next k) ys) → (k : ℕ)
+kth_both : (p : Option Step) (xs ys : List Step) (next : ℕ → Result Step ℕ) → ((k : ℕ) → kth (xs ++ ys) k ≡ among (next k) ys) → (k : ℕ)
     → kth (and_then p xs ++ ys) k ≡ among (further (counted_of p k) next) ys
 kth_both p xs ys next e k = ap (λ (l : List Step). kth l k) (first p) ∙ kth_first p (xs ++ ys) k ∙ go (counted_of p k)
   where
-    first : (p : Permitted) → and_then p xs ++ ys ≡ and_then p (xs ++ ys)
-    first (Yes s) = refl
-    first No = refl
+    first : (p : Option Step) → and_then p xs ++ ys ≡ and_then p (xs ++ ys)
+    first (Some s) = refl
+    first None = refl
 
-    go : (c : Counted) → among c (xs ++ ys) ≡ among (further c next) ys
-    go (Here s) = refl
-    go (Further j) = e j
+    go : (c : Result Step ℕ) → among c (xs ++ ys) ≡ among (further c next) ys
+    go (Ok s) = refl
+    go (Err j) = e j
 
-over_none : (f : Floor) (node : Node) (k : ℕ) → kth (steps_over f node []) k ≡ No
+over_none : (f : Floor) (node : Node) (k : ℕ) → kth (steps_over f node []) k ≡ None
 unfolding steps_over kth
 over_none f node k = refl
 
@@ -69,25 +66,25 @@ abbrev pub Counted-from : Polygon → View → ℕ → Walked → ℕ → ℕ �
 Counted-from q view i walked k rest j = counted_on q view i (parts_of walked) k ≡ counted_on q view i (drop j (parts_of walked)) rest
 
 module _ (q : Polygon) (view : View) (i : ℕ) (walked : Walked) (yielded : Yielded walked) (k rest j : ℕ) (inv : Counted-from q view i walked k rest j) where
-  pub parts_end : walked.count ≤ j → counted_on q view i (parts_of walked) k ≡ Further rest
+  pub parts_end : walked.count ≤ j → counted_on q view i (parts_of walked) k ≡ Err rest
   unfolding counted_on
   parts_end l = inv ∙ ap (λ (parts : List Part). counted_on q view i parts rest) (no_part_lem walked yielded j l)
 
-  module _ (l : j < walked.count) (p : Permitted) (counted : Counted) (e : p ≡ step_by q view (record { edge = i; part = part_at walked.parts j }))
+  module _ (l : j < walked.count) (p : Option Step) (counted : Result Step ℕ) (e : p ≡ step_by q view (record { edge = i; part = part_at walked.parts j }))
       (d : counted ≡ counted_of p rest) where
     part_first : counted_on q view i (parts_of walked) k ≡ further counted (counted_on q view i (drop (suc j) (parts_of walked)))
     unfolding counted_on
     part_first = rw (d, e) (inv ∙ ap (λ (parts : List Part). counted_on q view i parts rest) (next_part walked yielded j l))
 
-    pub part_finds : (t : Step) → counted ≡ Here t → counted_on q view i (parts_of walked) k ≡ Here t
-    part_finds t w = part_first ∙ ap (λ (c : Counted). further c (counted_on q view i (drop (suc j) (parts_of walked)))) w
+    pub part_finds : (t : Step) → counted ≡ Ok t → counted_on q view i (parts_of walked) k ≡ Ok t
+    part_finds t w = part_first ∙ ap (λ (c : Result Step ℕ). further c (counted_on q view i (drop (suc j) (parts_of walked)))) w
 
-    pub part_goes_on : (behind : ℕ) → counted ≡ Further behind → Counted-from q view i walked k behind (suc j)
-    part_goes_on behind w = part_first ∙ ap (λ (c : Counted). further c (counted_on q view i (drop (suc j) (parts_of walked)))) w
+    pub part_goes_on : (behind : ℕ) → counted ≡ Err behind → Counted-from q view i walked k behind (suc j)
+    part_goes_on behind w = part_first ∙ ap (λ (c : Result Step ℕ). further c (counted_on q view i (drop (suc j) (parts_of walked)))) w
 
 -- ---- in the goal polygon, and elsewhere
 
-pub none_in_goal : (f : Floor) (goal : ℕ) (node : Node) (k : ℕ) → node.polygon ≡ goal → kth (steps_from f goal node) k ≡ No
+pub none_in_goal : (f : Floor) (goal : ℕ) (node : Node) (k : ℕ) → node.polygon ≡ goal → kth (steps_from f goal node) k ≡ None
 unfolding steps_from kth
 none_in_goal f goal node k e = rw (eq-eqb node.polygon goal e)
 
@@ -109,22 +106,22 @@ module _ (plan vs ps : List ℕ) (node : Node) (h : Stands plan vs ps node) (goa
   -- what the view tells of an edge's parts is what the steps over them are
   module _ (g : Ground plan vs ps) (view : View) (v : view ≡ view_of (vertices_of vs) (is_marked plan) node) (i : ℕ) (ys : List Step) where
     on_edge : (parts : List Part) (left : ℕ) → kth (steps_over f node (successors_on i parts) ++ ys) left
-        ≡ among (counted_on (record_in plan ps view.polygon) view i parts left) ys
+        ≡ among (counted_on its view i parts left) ys
     unfolding counted_on steps_over
     on_edge [] left = refl
     on_edge (part ∷ parts) left =
         rw (step_on plan vs ps node h g view v (record { edge = i; part = part }) _ refl)
         (kth_both (step_of f node (record { edge = i; part = part })) (steps_over f node (successors_on i parts)) ys
-        (counted_on (record_in plan ps view.polygon) view i parts) (on_edge parts) left)
+        (counted_on its view i parts) (on_edge parts) left)
 
   module _ (round : Round) (left : ℕ) (inv : Counted-in f goal node k round left) where
-    pub counting_ends : is_over_of round ≡ true → kth (steps_from f goal node) k ≡ No
+    pub counting_ends : is_over_of round ≡ true → kth (steps_from f goal node) k ≡ None
     counting_ends o = inv ∙ ap (λ (l : List Successor). kth (steps_over f node l) left) (left_over plan vs ps node h round o) ∙ over_none f node left
 
     module _ (g : Ground plan vs ps) (goes : Goes its node round) (on : is_over_of round ≡ false) (view : View)
         (v : view ≡ view_of (vertices_of vs) (is_marked plan) node) (walked : Walked) (w : walked ≡ walked_on f node round)
-        (i : ℕ) (n : i ≡ edge_number_of round) (counted : Counted)
-        (d : counted ≡ counted_on (record_in plan ps view.polygon) view i (parts_of walked) left) where
+        (i : ℕ) (n : i ≡ edge_number_of round) (counted : Result Step ℕ)
+        (d : counted ≡ counted_on its view i (parts_of walked) left) where
       abbrev behind : List Step
       behind = steps_over f node (left_in f node (next_of round walked.kind))
 
@@ -134,9 +131,9 @@ module _ (plan vs ps : List ℕ) (node : Node) (h : Stands plan vs ps node) (goa
           rw (d, ← on_edge g view v i behind (parts_of walked) left, n, w)
           (inv ∙ ap (λ (l : List Step). kth l left) (steps_left_next plan vs ps node h round goes on))
 
-      pub counting_finds : (t : Step) → counted ≡ Here t → kth (steps_from f goal node) k ≡ Yes t
-      counting_finds t e = edge_first ∙ ap (λ (c : Counted). among c behind) e
+      pub counting_finds : (t : Step) → counted ≡ Ok t → kth (steps_from f goal node) k ≡ Some t
+      counting_finds t e = edge_first ∙ ap (λ (c : Result Step ℕ). among c behind) e
 
-      pub counting_goes_on : (rest : ℕ) → counted ≡ Further rest → (next : Round) → next ≡ next_of round walked.kind
+      pub counting_goes_on : (rest : ℕ) → counted ≡ Err rest → (next : Round) → next ≡ next_of round walked.kind
           → Counted-in f goal node k next rest
-      counting_goes_on rest e next m = rw m (edge_first ∙ ap (λ (c : Counted). among c behind) e)
+      counting_goes_on rest e next m = rw m (edge_first ∙ ap (λ (c : Result Step ℕ). among c behind) e)

@@ -1,18 +1,16 @@
 -- What C asks of the steps, and the numbers and words that come back. Rests on `steps_from`, which is document 01's "A permitted step". Assumes nothing.
-use Rattle.std.specs.Prelude.{ℕ, Bool, true, false, ◌&&◌, cond, List, eqb, ltb, length, get_or}
+use Rattle.std.specs.Prelude.{ℕ, Bool, true, false, ◌&&◌, cond, List, Option, Some, None, Result, Ok, Err, eqb, ltb, length, get_or}
 use Rattle.point.specs.Point.{zero, from_bits_of}
 use Rattle.told.specs.Told.{number_of}
-use Rattle.floor.specs.declared.FloorLook.{FloorLook}
-use Rattle.floor.specs.declared.FloorLook.TheVariants.{Accepted, Faulty}
+use Rattle.floor.specs.declared.Refusal.{Refusal}
 use Rattle.stored.specs.Stored.{Floor, Polygon, floor_of, corner_count, polygon_in}
 use Rattle.floor.specs.Look.{floor_look_of, refusal_told}
+use Rattle.route.specs.declared.Step.{Step}
 use Rattle.route.specs.Record.{step_words}
 use Rattle.steps.specs.declared.Node.{Node}
-use Rattle.steps.specs.declared.Permitted.{Permitted}
-use Rattle.steps.specs.declared.Permitted.TheVariants.{Yes, No}
 use Rattle.steps.specs.Steps.{place_of, steps_from}
-use Rattle.steps_c.specs.declared.Answer.{Answer}
-use Rattle.steps_c.specs.declared.Answer.TheVariants.{Given, NoMore, Nowhere, Refused}
+use Rattle.steps_c.specs.declared.Unasked.{Unasked}
+use Rattle.steps_c.specs.declared.Unasked.TheVariants.{Nowhere, Refused}
 use Rattle.steps_c.specs.Kth.{kth}
 
 -- ---- what is asked
@@ -44,17 +42,17 @@ is_on count polygons node =
 
 -- ---- what comes of it
 
-abbrev pub given : Permitted → Answer
-given (Yes step) = Given step
-given No = NoMore
+-- the step, or none where the node has no step with this number; or why it can't be asked for
+abbrev pub Answer : Type 0
+Answer = Result (Option Step) Unasked
 
 -- step k out of the node, on a floor that was accepted
 unfoldable pub answer_on : Floor → ℕ → Node → ℕ → Answer
-answer_on f goal node k = cond (is_on (length f.vertices) f.polygons node) (given (kth (steps_from f goal node) k)) Nowhere
+answer_on f goal node k = cond (is_on (length f.vertices) f.polygons node) (Ok (kth (steps_from f goal node) k)) (Err Nowhere)
 
-abbrev pub answer_if : FloorLook → Answer → Answer
-answer_if Accepted answer = answer
-answer_if (Faulty r) answer = Refused r
+abbrev pub answer_if : Result Unit Refusal → Answer → Answer
+answer_if (Ok u) answer = answer
+answer_if (Err r) answer = Err (Refused r)
 
 unfoldable pub answer_of : List ℕ → List ℕ → ℕ → Node → ℕ → Answer
 answer_of vertices polygons goal node k = answer_if (floor_look_of 8 vertices polygons) (answer_on (floor_of 8 vertices polygons) goal node k)
@@ -63,14 +61,13 @@ answer_of vertices polygons goal node k = answer_if (floor_look_of 8 vertices po
 
 -- 2 to 6 are document 01's, of a floor that is refused; 100 is none of document 01's
 unfoldable pub answer_number : Answer → ℕ
-answer_number (Given step) = 1
-answer_number NoMore = 0
-answer_number Nowhere = 100
-answer_number (Refused r) = number_of (refusal_told r)
+answer_number (Ok (Some step)) = 1
+answer_number (Ok None) = 0
+answer_number (Err Nowhere) = 100
+answer_number (Err (Refused r)) = number_of (refusal_told r)
 
 -- the words of the step's record, or what stood there
 unfoldable pub answer_written : Answer → List ℕ → List ℕ
-answer_written (Given step) before = step_words step
-answer_written NoMore before = before
-answer_written Nowhere before = before
-answer_written (Refused r) before = before
+answer_written (Ok (Some step)) before = step_words step
+answer_written (Ok None) before = before
+answer_written (Err u) before = before

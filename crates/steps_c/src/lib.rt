@@ -3,31 +3,37 @@
 // length. The function takes any bytes and any words.
 
 ghost use Rattle.std.specs.Prelude.{◌≡◌};
-ghost use Rattle.stored.specs.Stored.{floor_in};
-ghost use Rattle.edges.specs.Ground.{Ground};
+ghost use Rattle.edges.specs.AcceptedFloor.{the_floor};
+ghost use Rattle.steps_c.specs.declared.Unasked.TheVariants.{Refused};
 ghost use Rattle.steps_c.specs.Ask.{node_of, answer_on, answer_of, answer_number, answer_written};
 
-use floor::{FloorLook, Refusal};
-use plan::PLAN;
+use edges::AcceptedFloor;
+use floor::Refusal;
+use plan::Plan;
 use point::{Point, Segment};
 use records::Record;
 use route::Step;
-use steps::{Node, Permitted};
+use steps::Node;
+use told::Told;
 
 mod kth;
 mod stand;
 
-// What comes of asking for a step.
+// Why a step can't be asked for.
 #[derive(Clone, Copy)]
-enum Answer {
-    // The step.
-    Given(Step),
-    // The node has no step with this number.
-    NoMore,
+enum Unasked {
     // The node does not stand on the floor.
     Nowhere,
     // The floor is refused.
     Refused(Refusal),
+}
+
+impl From<Refusal> for Unasked {
+    ghost from_gives = { λ r u. u ≡ Refused r };
+
+    fn from(refusal: Refusal) -> Unasked {
+        Unasked::Refused(refusal)
+    }
 }
 
 // The node that ten words stand for: 1 for the seed, polygon, first, second, the bit patterns of the interval's four
@@ -51,38 +57,40 @@ fn node_of(words: &[u32; 10]) -> Node
     }
 }
 
-// Step k out of a node, on a floor that was accepted.
+// Step k out of a node, or none where the node has no step with this number.
 #[tactic(auto, unfolding(crate::specs::Ask::answer_on))]
 fn answer_on(
-    vertices: &[u8],
-    polygons: &[u8],
-    plan: &[u32; PLAN],
+    floor: &AcceptedFloor,
     goal: u32,
     node: Node,
     k: usize,
-) -> Answer
-    requires { Ground plan.now vertices.now polygons.now }
-    ensures { result ≡ answer_on (floor_in plan.now vertices.now polygons.now) goal node k }
+) -> Result<Option<Step>, Unasked>
+    ensures { result ≡ answer_on (the_floor floor.now) goal node k }
 {
-    if !stand::is_on(polygons, plan, node) {
-        return Answer::Nowhere;
+    if !stand::is_on(floor.polygons, floor.plan, node) {
+        return Err(Unasked::Nowhere);
     }
-    let permitted = kth::kth_step(vertices, polygons, plan, goal, node, k);
-    match permitted {
-        Permitted::Yes(step) => Answer::Given(step),
-        Permitted::No => Answer::NoMore,
-    }
+    Ok(kth::kth_step(floor, goal, node, k))
 }
 
 #[tactic(auto, unfolding(crate::specs::Ask::answer_of))]
-fn ask(vertices: &[u8], polygons: &[u8], goal: u32, node: Node, k: usize) -> Answer
+fn ask(
+    vertices: &[u8],
+    polygons: &[u8],
+    goal: u32,
+    node: Node,
+    k: usize,
+) -> Result<Option<Step>, Unasked>
     ensures { result ≡ answer_of vertices.now polygons.now goal node k }
 {
-    let mut plan = [0u32; PLAN];
-    match floor::look_at_floor(vertices, polygons, &mut plan) {
-        FloorLook::Accepted => answer_on(vertices, polygons, &plan, goal, node, k),
-        FloorLook::Faulty(refusal) => Answer::Refused(refusal),
-    }
+    let mut plan = Plan::new();
+    floor::look_at_floor(vertices, polygons, &mut plan)?;
+    let floor = AcceptedFloor {
+        vertices,
+        polygons,
+        plan: &plan,
+    };
+    answer_on(&floor, goal, node, k)
 }
 
 // The step with number k, counted from 0, out of a node, where the goal is in this polygon: 1, and its record's eight words
@@ -102,16 +110,15 @@ pub fn steps_step(
         out.old }
 {
     let asked = node_of(node);
-    let answer = ask(vertices, polygons, goal, asked, k);
-    match answer {
-        Answer::Given(step) => {
+    match ask(vertices, polygons, goal, asked, k) {
+        Ok(Some(step)) => {
             let record = Record::step(step);
             let words = record.words;
             *out = words;
             1
         }
-        Answer::NoMore => 0,
-        Answer::Nowhere => 100,
-        Answer::Refused(refusal) => refusal.told().number(),
+        Ok(None) => 0,
+        Err(Unasked::Nowhere) => 100,
+        Err(Unasked::Refused(refusal)) => Told::from(refusal).number(),
     }
 }

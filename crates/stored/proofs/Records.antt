@@ -1,21 +1,24 @@
 -- Where a record's words are, and that they are inside: said once for any number of slots. Assumes nothing.
-use Prim.Native.Nat.{ℕ, ◌+◌, ◌*◌, ◌/◌, ◌≤◌, ◌<◌}
+use Prim.Native.Nat.{ℕ, ◌+◌, ◌-◌, ◌*◌, ◌/◌, ◌≤◌, ◌<◌}
 use native.Mathlib.Nat.{le_trans, mul-le-mul_right, div-mul-le_self}
 use native.Mathlib.Omega.{arith}
 use native.Mathlib.Decide.{dec_lt}
-use mathlib.Core.Path.{◌≡◌, sym, ◌∙◌, subst}
-use mathlib.Core.Bool.{Bool, true, false, not}
-use mathlib.Core.List.{List, []}
-use borrow.Author.Tests.{eq-eqb, ne_eqb}
+use mathlib.Core.Path.{◌≡◌, refl, sym, ◌∙◌, subst}
+use mathlib.Core.Bool.{Bool, true, false, not, cond}
+use mathlib.Core.List.{List, [], ◌++◌}
+use borrow.Author.Tests.{eqb-true, eqb-false, eq-eqb, ne_eqb}
 use lib.Dec.{T, eqb}
-use lib.ListN.{length, get_or, get_or-eq_default}
-use Rattle.counts.specs.Counts.{table}
+use lib.ListN.{length, get_or, get_or-eq_default, get_or-append}
+use lib.Seq.{get_or-append_right}
+use Rattle.std.specs.Prelude.{Some, None}
+use Rattle.std.proofs.lemmas.List.{get_or-append-add}
+use Rattle.std.proofs.lemmas.Option.{none-some, same_Some}
 use Rattle.word.specs.Word.{word_at}
 use Rattle.counts.proofs.Laws.{length_table, get_or_table, first_le, first_at, first_below}
 use Rattle.point.specs.Point.{plus_of}
-use Rattle.plan.specs.Plan.{slots_in, polygon_count_in}
-use Rattle.stored.specs.Stored.{unused, origin, vertex_at, slot_at, polygon_at, vertices_of, polygons_of, corner, neighbour, corner_count, polygon_in}
-use Rattle.stored.specs.Stored.{vertex_in, record_in, polygons_in, Lies, PolygonsPlanned}
+use Rattle.plan.specs.Plan.{most_slots, slots_in, polygon_count_in}
+use Rattle.stored.specs.Stored.{Polygon, unused, origin, vertex_at, slot_at, polygon_at, vertices_of, polygons_of, corner, neighbour, across, corner_count}
+use Rattle.stored.specs.Stored.{polygon_in, vertex_in, record_in, polygons_in, Lies, PolygonsPlanned}
 
 -- record p is inside: as many bytes as its size stand from p times the size on
 whole : (L d p : ℕ) → p < L / d → (p + 1) * d ≤ L
@@ -28,33 +31,6 @@ module _ (L s p i : ℕ) (listed : p < L / (s * 8)) (slot : i < s + s) where
   pub slot_within : p * (s * 8) + i * 4 + 4 ≤ L
   slot_within = omega (arith, whole L (s * 8) p listed)
 
--- by the number of slots that was read off a plan
-module _ {read s : ℕ} (e : read ≡ s) where
-  pub slot_within_by : (L p i : ℕ) → p < L / (s * 8) → i < s + s → p * (read * 8) + i * 4 + 4 ≤ L
-  slot_within_by L p i listed slot = subst (λ (k : ℕ). p * (k * 8) + i * 4 + 4 ≤ L) (sym e) (slot_within L s p i listed slot)
-
-  pub slot_read_by : (bytes : List ℕ) (p i : ℕ) {r : ℕ} → r ≡ word_at bytes (p * (read * 8) + i * 4) → r ≡ slot_at s bytes p i
-  unfolding slot_at
-  slot_read_by bytes p i {r} = subst (λ (k : ℕ). r ≡ word_at bytes (p * (k * 8) + i * 4) → r ≡ word_at bytes (p * (s * 8) + i * 4)) (sym e) (λ h. h)
-
-  pub neighbour_read_by : (bytes : List ℕ) (p i : ℕ) {r : ℕ} → i < s → r ≡ slot_at s bytes p (read + i) → r ≡ neighbour (polygon_at s bytes p) i
-  unfolding neighbour polygon_at
-  neighbour_read_by bytes p i {r} h given =
-      subst (λ (k : ℕ). r ≡ slot_at s bytes p (k + i)) e given ∙ sym (get_or_table s (λ k. slot_at s bytes p (s + k)) i unused h)
-
-module _ (s : ℕ) (bytes : List ℕ) (p i : ℕ) where
-  pub corner_read : i < s → corner (polygon_at s bytes p) i ≡ slot_at s bytes p i
-  unfolding corner polygon_at
-  corner_read h = get_or_table s (slot_at s bytes p) i unused h
-
-  pub neighbour_read : i < s → neighbour (polygon_at s bytes p) i ≡ slot_at s bytes p (s + i)
-  unfolding neighbour polygon_at
-  neighbour_read h = get_or_table s (λ k. slot_at s bytes p (s + k)) i unused h
-
-  pub corner_beyond : s ≤ i → corner (polygon_at s bytes p) i ≡ unused
-  unfolding corner polygon_at
-  corner_beyond h = get_or-eq_default (table s (slot_at s bytes p)) unused (subst (λ (v : ℕ). v ≤ i) (sym (length_table s (slot_at s bytes p))) h)
-
 module _ (s : ℕ) (bytes : List ℕ) (p : ℕ) where
   pub corner_slots : length (polygon_at s bytes p).corners ≡ s
   unfolding polygon_at
@@ -64,67 +40,152 @@ module _ (s : ℕ) (bytes : List ℕ) (p : ℕ) where
   unfolding polygon_at
   neighbour_slots = length_table s (λ k. slot_at s bytes p (s + k))
 
+  -- as many as was read off a plan
+  pub slots_told : {read : ℕ} → read ≡ s → s ≤ most_slots
+      → (read ≡ length (polygon_at s bytes p).corners) × (read ≡ length (polygon_at s bytes p).neighbours) × (read ≤ most_slots)
+  slots_told e few = (e ∙ sym corner_slots, e ∙ sym neighbour_slots, rw e few)
+
+  module _ (i : ℕ) where
+    pub corner_read : i < s → corner (polygon_at s bytes p) i ≡ slot_at s bytes p i
+    unfolding corner polygon_at
+    corner_read h = get_or_table s (slot_at s bytes p) i unused h
+
+    pub neighbour_read : i < s → neighbour (polygon_at s bytes p) i ≡ slot_at s bytes p (s + i)
+    unfolding neighbour polygon_at
+    neighbour_read h = get_or_table s (λ k. slot_at s bytes p (s + k)) i unused h
+
+  module _ (i : ℕ) where
+    -- the corners' slots, and then the neighbours'
+    slot_read : i < s + s → get_or ((polygon_at s bytes p).corners ++ (polygon_at s bytes p).neighbours) i unused ≡ slot_at s bytes p i
+    unfolding corner neighbour
+    slot_read h = go (dec_lt i s)
+      where
+        q : Polygon
+        q = polygon_at s bytes p
+
+        go : Dec (i < s) → get_or (q.corners ++ q.neighbours) i unused ≡ slot_at s bytes p i
+        go (yes l) = get_or-append q.corners q.neighbours unused i (omega (arith, l, corner_slots)) ∙ corner_read i l
+        go (no l) =
+            let e : s + (i - s) ≡ i = omega (arith, l) in
+            get_or-append_right q.corners q.neighbours i unused (omega (arith, l, corner_slots)) ∙ rw corner_slots
+            (subst (λ (k : ℕ). neighbour q (i - s) ≡ slot_at s bytes p k) e (neighbour_read (i - s) (omega (arith, l, h))))
+
+-- of the polygon that a record stands for, by the number of slots that was read off a plan
+module _ (s : ℕ) (bytes : List ℕ) (p : ℕ) {q : Polygon} (stands : polygon_at s bytes p ≡ q) {read : ℕ} (e : read ≡ s) {i : ℕ}
+    (h : i < length q.corners + length q.neighbours) where
+  slot_here : i < s + s
+  slot_here =
+      let l : i < length (polygon_at s bytes p).corners + length (polygon_at s bytes p).neighbours = rw stands h in
+      omega (arith, l, corner_slots s bytes p, neighbour_slots s bytes p)
+
+  pub slot_within_by : p < length bytes / (s * 8) → p * (read * 8) + i * 4 + 4 ≤ length bytes
+  slot_within_by listed = subst (λ (k : ℕ). p * (k * 8) + i * 4 + 4 ≤ length bytes) (sym e) (slot_within (length bytes) s p i listed slot_here)
+
+  pub slot_read_by : {r : ℕ} → r ≡ word_at bytes (p * (read * 8) + i * 4) → r ≡ get_or (q.corners ++ q.neighbours) i unused
+  unfolding slot_at
+  slot_read_by {r} given =
+      rw (← stands)
+      (subst (λ (k : ℕ). r ≡ word_at bytes (p * (k * 8) + i * 4)) e given ∙ sym (slot_read s bytes p i slot_here))
+
+-- ---- a polygon
+
+module _ (q : Polygon) where
+  -- the corners' slots come first
+  pub corner_slot : (i : ℕ) → i < length q.corners → get_or (q.corners ++ q.neighbours) i unused ≡ corner q i
+  unfolding corner
+  corner_slot i l = get_or-append q.corners q.neighbours unused i l
+
+  -- and the neighbours' come after them
+  pub neighbour_slot : (i : ℕ) → get_or (q.corners ++ q.neighbours) (length q.corners + i) unused ≡ neighbour q i
+  unfolding neighbour
+  neighbour_slot i = get_or-append-add q.corners q.neighbours i unused
+
+  pub neighbour_slot_by : {read : ℕ} → read ≡ length q.corners → (i : ℕ) → {r : ℕ} → r ≡ get_or (q.corners ++ q.neighbours) (read + i) unused
+      → r ≡ neighbour q i
+  neighbour_slot_by e i {r} given =
+      subst (λ (k : ℕ). r ≡ get_or (q.corners ++ q.neighbours) (k + i) unused) e given ∙ neighbour_slot i
+
+  pub corner_beyond : (i : ℕ) → length q.corners ≤ i → corner q i ≡ unused
+  unfolding corner
+  corner_beyond i l = get_or-eq_default q.corners unused l
+
   -- a polygon has no more corners than slots
-  pub count_slots : corner_count (polygon_at s bytes p) ≤ s
+  pub count_slots : corner_count q ≤ length q.corners
   unfolding corner_count
-  count_slots =
-      subst (λ (v : ℕ). corner_count (polygon_at s bytes p) ≤ v) corner_slots
-      (first_le (length (polygon_at s bytes p).corners) (λ i. eqb (corner (polygon_at s bytes p) i) unused))
+  count_slots = first_le (length q.corners) (λ i. eqb (corner q i) unused)
 
   -- the corners end at an unused slot at the latest
-  pub count_upto : (j : ℕ) → j < s → eqb (corner (polygon_at s bytes p) j) unused ≡ true → corner_count (polygon_at s bytes p) ≤ j
+  pub count_upto : (j : ℕ) → j < length q.corners → eqb (corner q j) unused ≡ true → corner_count q ≤ j
   unfolding corner_count
-  count_upto j l e =
-      first_below (length (polygon_at s bytes p).corners) (λ i. eqb (corner (polygon_at s bytes p) i) unused) j
-      (subst (λ (n : ℕ). j < n) (sym corner_slots) l) e
+  count_upto = first_below (length q.corners) (λ i. eqb (corner q i) unused)
 
   -- and behind those that are corners comes another where its slot is used
-  pub count_on : (j : ℕ) → j < s → j ≤ corner_count (polygon_at s bytes p) → eqb (corner (polygon_at s bytes p) j) unused ≡ false
-      → j < corner_count (polygon_at s bytes p)
+  pub count_on : (j : ℕ) → j < length q.corners → j ≤ corner_count q → eqb (corner q j) unused ≡ false → j < corner_count q
   unfolding corner_count
-  count_on j l low used = go (dec_lt j (corner_count (polygon_at s bytes p)))
+  count_on j l low used = go (dec_lt j (corner_count q))
     where
-      end : corner_count (polygon_at s bytes p) ≡ j → eqb (corner (polygon_at s bytes p) j) unused ≡ true
+      end : corner_count q ≡ j → eqb (corner q j) unused ≡ true
       end e =
-          subst (λ (k : ℕ). eqb (corner (polygon_at s bytes p) k) unused ≡ true) e
-          (first_at (length (polygon_at s bytes p).corners) (λ i. eqb (corner (polygon_at s bytes p) i) unused)
-          (subst (λ (n : ℕ). corner_count (polygon_at s bytes p) < n) (sym corner_slots) (omega (arith, e, l))))
+          subst (λ (k : ℕ). eqb (corner q k) unused ≡ true) e
+          (first_at (length q.corners) (λ i. eqb (corner q i) unused) (omega (arith, e, l)))
 
-      go : Dec (j < corner_count (polygon_at s bytes p)) → j < corner_count (polygon_at s bytes p)
+      go : Dec (j < corner_count q) → j < corner_count q
       go (yes h) = h
       go (no h) = absurd (subst (λ (b : Bool). T (not b)) (sym used ∙ end (omega (arith, low, h))) tt)
 
 -- ---- a loop from corner to corner
 
 -- it has come to slot i, and all before it are corners
-pub record Upto (plan bytes : List ℕ) (p slots i : ℕ) : Type 0 where
-  pub all : slots ≡ slots_in plan
-  pub low : i ≤ corner_count (record_in plan bytes p)
+pub record Upto (q : Polygon) (slots i : ℕ) : Type 0 where
+  pub all : slots ≡ length q.corners
+  pub low : i ≤ corner_count q
 
-pub upto_none : {plan bytes : List ℕ} {p slots : ℕ} → slots ≡ slots_in plan → Upto plan bytes p slots 0
+pub upto_none : {q : Polygon} {slots : ℕ} → slots ≡ length q.corners → Upto q slots 0
 upto_none e = record { all = e; low = omega arith }
 
-module _ {plan bytes : List ℕ} {p slots i : ℕ} (h : Upto plan bytes p slots i) where
-  pub within_slots : i ≤ slots_in plan
-  within_slots = let few = count_slots (slots_in plan) bytes p in omega (arith, few, h.low)
+module _ {q : Polygon} {slots i : ℕ} (h : Upto q slots i) where
+  pub within_slots : i ≤ length q.corners
+  within_slots = omega (arith, count_slots q, h.low)
 
   -- the slots are all
-  pub ends_with_slots : slots ≤ i → corner_count (record_in plan bytes p) ≡ i
-  ends_with_slots l = let few = count_slots (slots_in plan) bytes p in omega (arith, few, l, h.all, h.low)
+  pub ends_with_slots : slots ≤ i → corner_count q ≡ i
+  ends_with_slots l = omega (arith, count_slots q, l, h.all, h.low)
 
-  module _ (l : i < slots) {x : ℕ} (read : x ≡ corner (record_in plan bytes p) i) where
+  pub all_slots : slots ≤ i → (slots ≡ corner_count q) × (slots ≤ length q.corners)
+  all_slots l = (omega (arith, count_slots q, l, h.all, h.low), omega (arith, h.all))
+
+  module _ (l : i < slots) {x : ℕ} (read : x ≡ corner q i) where
     -- it is unused
-    pub ends_here : x ≡ unused → corner_count (record_in plan bytes p) ≡ i
+    pub ends_here : x ≡ unused → corner_count q ≡ i
     ends_here e =
-        let end = count_upto (slots_in plan) bytes p i (omega (arith, l, h.all)) (rw (← read, eq-eqb _ _ e)) in
+        let end = count_upto q i (omega (arith, l, h.all)) (rw (← read, eq-eqb _ _ e)) in
         omega (arith, end, h.low)
 
     -- it is a corner
-    pub goes_on : (x ≡ unused → ⊥) → i < corner_count (record_in plan bytes p)
-    goes_on e = count_on (slots_in plan) bytes p i (omega (arith, l, h.all)) h.low (rw (← read, ne_eqb _ _ e))
+    pub goes_on : (x ≡ unused → ⊥) → i < corner_count q
+    goes_on e = count_on q i (omega (arith, l, h.all)) h.low (rw (← read, ne_eqb _ _ e))
 
-    pub upto_more : (x ≡ unused → ⊥) → Upto plan bytes p slots (i + 1)
+    pub upto_more : (x ≡ unused → ⊥) → Upto q slots (i + 1)
     upto_more e = let on = goes_on e in record { all = h.all; low = omega (arith, on) }
+
+-- ---- what is across an edge
+
+module _ (q : Polygon) (i : ℕ) where
+  pub across_none : across q i ≡ None → neighbour q i ≡ unused
+  across_none e = go (eqb (neighbour q i) unused) refl e
+    where
+      go : (b : Bool) → eqb (neighbour q i) unused ≡ b → cond b None (Some (neighbour q i)) ≡ None → neighbour q i ≡ unused
+      go true t _ = eqb-true (neighbour q i) unused t
+      go false t e = absurd (none-some (neighbour q i) (sym e))
+
+  pub across_some : {x : ℕ} → across q i ≡ Some x → (neighbour q i ≡ x) × (x ≡ unused → ⊥)
+  across_some {x} e = go (eqb (neighbour q i) unused) refl e
+    where
+      go : (b : Bool) → eqb (neighbour q i) unused ≡ b → cond b None (Some (neighbour q i)) ≡ Some x → (neighbour q i ≡ x) × (x ≡ unused → ⊥)
+      go true t e = absurd (none-some x e)
+      go false t e =
+          let same : neighbour q i ≡ x = same_Some (neighbour q i) x e in
+          (same, λ u. eqb-false (neighbour q i) unused t (same ∙ u))
 
 -- ---- what the lists stand for
 
@@ -152,6 +213,10 @@ module _ (vs : List ℕ) where
   vertex_used v h = rw (vertex_is v h)
 
 -- ---- by a plan
+
+-- a record that was read has as many slots as the plan says
+pub record_slots : (plan ps : List ℕ) (p : ℕ) {q : Polygon} → q ≡ record_in plan ps p → length q.corners ≡ slots_in plan
+record_slots plan ps p e = rw e (corner_slots (slots_in plan) ps p)
 
 module _ {plan ps : List ℕ} (planned : PolygonsPlanned plan ps) where
   pub lies : (p : ℕ) → p < polygon_count_in plan → Lies plan ps p

@@ -1,12 +1,13 @@
 -- Document 01, "The floor, as stored": what the lent bytes of a floor and of a question stand for. Only the three readers of records know where a
 -- record's bytes are; everything else speaks of a floor's vertices and polygons. Assumes nothing.
-use Rattle.std.specs.Prelude.{ℕ, ◌+◌, ◌*◌, ◌/◌, ◌≤◌, ◌<◌, ◌≡◌, Bool, cond, List, [], ltb, eqb, length, get_or}
+use Rattle.std.specs.Prelude.{ℕ, ◌+◌, ◌*◌, ◌/◌, ◌≤◌, ◌<◌, ◌≡◌, Bool, cond, List, [], ltb, eqb, length, get_or, Option, Some, None}
 use Rattle.counts.specs.Counts.{first, table}
 use Rattle.word.specs.Word.{word_at}
 use Rattle.plan.specs.Plan.{most_vertices, most_polygons, most_slots, slots_in, vertex_count_in, polygon_count_in}
 use Rattle.point.specs.declared.Point.{Point}
 use Rattle.point.specs.declared.Segment.{Segment}
 use Rattle.point.specs.Point.{zero, point_of, from_bits_of, plus_of}
+use Rattle.stored.specs.declared.Question.{Question}
 
 -- "Unused slots hold 0xFFFFFFFF", and it stands for a wall in a neighbour's slot: the number of no vertex and of no polygon.
 abbrev pub unused : ℕ
@@ -19,10 +20,6 @@ pub record Polygon : Type 0 where
 pub record Floor : Type 0 where
   pub vertices : List Point
   pub polygons : List Polygon
-
-pub record Question : Type 0 where
-  pub start : Point
-  pub goal : Point
 
 -- ---- records: "of one fixed size, no header, little-endian"
 
@@ -76,6 +73,10 @@ corner p i = get_or p.corners i unused
 unfoldable pub neighbour : Polygon → ℕ → ℕ
 neighbour p i = get_or p.neighbours i unused
 
+-- the polygon across edge i, or none at a wall
+abbrev pub across : Polygon → ℕ → Option ℕ
+across p i = cond (eqb (neighbour p i) unused) None (Some (neighbour p i))
+
 -- "Unused slots .. stand after the used ones": the corners are those before the first unused one.
 unfoldable pub corner_count : Polygon → ℕ
 corner_count p = first (length p.corners) (λ i. eqb (corner p i) unused)
@@ -105,14 +106,15 @@ vertex_in vertices v = plus_of (get_or vertices v origin) origin
 abbrev pub vertex : Floor → ℕ → Point
 vertex f v = vertex_in f.vertices v
 
--- edge i of polygon p, from corner to corner
+-- edge i of a polygon, from corner to corner
+abbrev pub edge_of : List Point → Polygon → ℕ → Segment
+edge_of vertices p i = (vertex_in vertices (corner p i), vertex_in vertices (corner_after p i))
+
+-- edge i of polygon p
 unfoldable pub edge : Floor → ℕ → ℕ → Segment
-edge f p i = (vertex f (corner (polygon f p) i), vertex f (corner_after (polygon f p) i))
+edge f p i = edge_of f.vertices (polygon f p) i
 
 -- ---- by a plan, which says how many slots a record has
-
-abbrev pub slot_in : List ℕ → List ℕ → ℕ → ℕ → ℕ
-slot_in plan bytes p i = slot_at (slots_in plan) bytes p i
 
 abbrev pub record_in : List ℕ → List ℕ → ℕ → Polygon
 record_in plan bytes p = polygon_at (slots_in plan) bytes p

@@ -4,22 +4,21 @@ use mathlib.Core.Path.{◌≡◌, refl, ap, ◌∙◌}
 use mathlib.Core.Bool.{Bool, true, false, not, ◌&&◌, cond}
 use mathlib.Core.List.{List}
 use lib.Dec.{eqb}
+use Rattle.std.specs.Prelude.{Option, Some, None}
+use Rattle.std.specs.Option.{option_and_then}
 use Rattle.plan.specs.Plan.{vertex_count_in, is_marked}
 use Rattle.stored.specs.Stored.{Floor, unused, corner, corner_after, neighbour, polygon, vertices_of, floor_in}
 use Rattle.edges.specs.Where.{is_turn}
 use Rattle.edges.specs.Ground.{Ground}
 use Rattle.point.specs.declared.Segment.{Segment}
 use Rattle.point.specs.Point.{same_of}
-use Rattle.cone.specs.declared.Clipped.{Clipped}
-use Rattle.cone.specs.declared.Clipped.TheVariants.{Seen}
 use Rattle.cone.specs.Cone.{clip_to_cone_of}
 use Rattle.cone.proofs.Clip.{kept_cone_clips_the_same}
 use Rattle.cut.specs.declared.SuccessorType.{SuccessorType}
 use Rattle.cut.specs.declared.SuccessorType.TheVariants.{LeftNonObservable, Observable, RightNonObservable}
 use Rattle.walk.specs.declared.Successor.{Successor}
 use Rattle.steps.specs.declared.Node.{Node}
-use Rattle.steps.specs.declared.Permitted.{Permitted}
-use Rattle.steps.specs.declared.Permitted.TheVariants.{Yes, No}
+use Rattle.route.specs.declared.Step.{Step}
 use Rattle.steps.specs.Steps.{is_allowed, root_after, clipped, is_interval, if_seen, step_of}
 use Rattle.view.specs.View.{corner_on, view_of, allows_of, keeps_by, clips_by, neighbour_by, clip_if, over_by, step_by}
 
@@ -59,11 +58,11 @@ module _ (f : Floor) (node : Node) where
   unfolding clip_if clips_by clipped view_of
   seen_is kind interval =
       rw (keeps_is kind)
-      (ap (λ (x : Clipped). cond (cond node.seed false (same_of (root_after f.vertices node kind) node.root)) x (Seen interval))
+      (ap (λ (x : Option Segment). cond (cond node.seed false (same_of (root_after f.vertices node kind) node.root)) x (Some interval))
       (kept_cone_clips_the_same node.root node.interval interval)
-      ∙ go (clip_to_cone_of node.root node.interval interval) (Seen interval) node.seed (same_of (root_after f.vertices node kind) node.root))
+      ∙ go (clip_to_cone_of node.root node.interval interval) (Some interval) node.seed (same_of (root_after f.vertices node kind) node.root))
     where
-      go : (x y : Clipped) (seed same : Bool) → cond (cond seed false same) x y ≡ cond (not seed && same) x y
+      go : (x y : Option Segment) (seed same : Bool) → cond (cond seed false same) x y ≡ cond (not seed && same) x y
       go x y true same = refl
       go x y false same = refl
 
@@ -71,13 +70,14 @@ module _ (f : Floor) (node : Node) where
   unfolding step_by neighbour_by over_by step_of
   step_by_view s =
       rw (allows_is s.part.kind, seen_is s.part.kind s.part.interval)
-      (go (is_allowed f.vertices (is_turn f) node s.part.kind) (neighbour (polygon f node.polygon) s.edge) over)
+      (go (is_allowed f.vertices (is_turn f) node s.part.kind) (eqb (neighbour (polygon f node.polygon) s.edge) unused)
+      (neighbour (polygon f node.polygon) s.edge) over)
     where
-      over : ℕ → Permitted
+      over : ℕ → Option Step
       over n =
           if_seen (clipped f.vertices node s.part.kind s.part.interval) (λ interval.
-          cond (not (is_interval interval)) No
-          (Yes (record {
+          cond (not (is_interval interval)) None
+          (Some (record {
             kind = s.part.kind;
             polygon = n;
             first = corner (polygon f node.polygon) s.edge;
@@ -85,11 +85,9 @@ module _ (f : Floor) (node : Node) where
             interval = interval;
           })))
 
-      go : (allowed : Bool) (n : ℕ) (x : ℕ → Permitted)
-          → cond (eqb (cond allowed n unused) unused) No (x (cond allowed n unused)) ≡ cond (eqb n unused) No (cond (not allowed) No (x n))
-      go true n x = refl
-      go false n x = either (eqb n unused)
-        where
-          either : (b : Bool) → No ≡ cond b No No
-          either true = refl
-          either false = refl
+      go : (allowed wall : Bool) (n : ℕ) (x : ℕ → Option Step)
+          → option_and_then x (cond allowed (cond wall None (Some n)) None) ≡ cond wall None (cond (not allowed) None (x n))
+      go true true n x = refl
+      go true false n x = refl
+      go false true n x = refl
+      go false false n x = refl

@@ -1,11 +1,10 @@
 -- Every end of a part of an edge is an end of the edge or a sum of points: what holds of these holds of it. Assumes nothing.
 use mathlib.Core.Bool.{Bool, true, false, cond}
+use Rattle.std.specs.Prelude.{Option, Some, None}
 use Rattle.point.specs.declared.Point.{Point}
 use Rattle.point.specs.declared.Segment.{Segment}
 use Rattle.point.specs.declared.EdgeSide.{EdgeSide}
 use Rattle.point.specs.declared.EdgeSide.TheVariants.{Left, Right, Edge}
-use Rattle.helpers.specs.declared.Crossing.{Crossing}
-use Rattle.helpers.specs.declared.Crossing.TheVariants.{At, Nowhere}
 use Rattle.point.specs.Point.{plus_of, minus_of, times_of}
 use Rattle.point.specs.Sides.{side_of}
 use Rattle.helpers.specs.Helpers.{crosses_of, clamp_of, intersection_time_of, line_intersect_segment_of}
@@ -25,9 +24,9 @@ by_side P Edge l r e a b c = c
 module _ (P : Point → Type 0) (sums : (a b : Point) → P (plus_of a b)) where
   -- ---- cuts
 
-  abbrev AtIt : Crossing → Type 0
-  AtIt (At p) = P p
-  AtIt Nowhere = Unit {0}
+  abbrev AtIt : Option Point → Type 0
+  AtIt (Some p) = P p
+  AtIt None = Unit {0}
 
   abbrev OfCut : Cut → Type 0
   OfCut c = AtIt c.at
@@ -37,7 +36,7 @@ module _ (P : Point → Type 0) (sums : (a b : Point) → P (plus_of a b)) where
   meeting line segment = go (crosses_of (intersection_time_of line segment))
     where
       go : (b : Bool)
-          → AtIt (cond b (At (plus_of segment.0 (times_of (minus_of segment.1 segment.0) (clamp_of (intersection_time_of line segment))))) Nowhere)
+          → AtIt (cond b (Some (plus_of segment.0 (times_of (minus_of segment.1 segment.0) (clamp_of (intersection_time_of line segment))))) None)
       go true = sums _ _
       go false = tt
 
@@ -50,10 +49,10 @@ module _ (P : Point → Type 0) (sums : (a b : Point) → P (plus_of a b)) where
   unfolding nowhere_of
   nowhere kind = tt
 
-  by_crossing : (c : Crossing) → AtIt c → (f : Point → Cut) (n : Cut) → ((p : Point) → P p → OfCut (f p)) → OfCut n
-      → OfCut (elim c as (λ _. Cut) [ At q ↦ f q | Nowhere ↦ n ])
-  by_crossing (At p) h f n a b = a p h
-  by_crossing Nowhere h f n a b = b
+  by_crossing : (c : Option Point) → AtIt c → (f : Point → Cut) (n : Cut) → ((p : Point) → P p → OfCut (f p)) → OfCut n
+      → OfCut (elim c as (λ _. Cut) [ Some q ↦ f q | None ↦ n ])
+  by_crossing (Some p) h f n a b = a p h
+  by_crossing None h f n a b = b
 
   first_crossing : (p : Point) (edge : Segment) (kind : SuccessorType) → P p → OfCut (first_crossing_of p edge kind)
   unfolding first_crossing_of
@@ -80,19 +79,19 @@ module _ (P : Point → Type 0) (sums : (a b : Point) → P (plus_of a b)) where
   abbrev pub BothEnds : Part → Type 0
   BothEnds part = P part.interval.0 × P part.interval.1
 
-  cut_or_lem : (c : Crossing) (p : Point) → AtIt c → P p → P (cut_or c p)
-  cut_or_lem (At q) p h k = h
-  cut_or_lem Nowhere p h k = k
+  cut_or_lem : (c : Option Point) (p : Point) → AtIt c → P p → P (cut_or c p)
+  cut_or_lem (Some q) p h k = h
+  cut_or_lem None p h k = k
 
-  in_before : (c : Crossing) (p : Point) (kind : SuccessorType) → AtIt c → P p → All BothEnds (before c p kind)
+  in_before : (c : Option Point) (p : Point) (kind : SuccessorType) → AtIt c → P p → All BothEnds (before c p kind)
   unfolding part_of
-  in_before (At q) p kind h k = ((k, h), tt)
-  in_before Nowhere p kind h k = tt
+  in_before (Some q) p kind h k = ((k, h), tt)
+  in_before None p kind h k = tt
 
-  in_behind : (c : Crossing) (p : Point) (kind : SuccessorType) → AtIt c → P p → All BothEnds (behind c p kind)
+  in_behind : (c : Option Point) (p : Point) (kind : SuccessorType) → AtIt c → P p → All BothEnds (behind c p kind)
   unfolding part_of
-  in_behind (At q) p kind h k = ((h, k), tt)
-  in_behind Nowhere p kind h k = tt
+  in_behind (Some q) p kind h k = ((h, k), tt)
+  in_behind None p kind h k = tt
 
   in_rest : (left right edge : Segment) (kind : SuccessorType) → P edge.0 → P edge.1 → All BothEnds (rest_of left right edge kind).parts
   unfolding rest_of part_of

@@ -10,10 +10,9 @@ use borrow.Author.Tests.{ltb-true, ltb-false}
 use lib.Dec.{ltb}
 use lib.ListN.{length, get_or, length-append, length-map}
 use lib.Seq.{get_or-take}
+use Rattle.std.specs.Prelude.{Option, Some, None}
 use Rattle.point.specs.declared.Point.{Point}
 use Rattle.point.specs.declared.Segment.{Segment}
-use Rattle.helpers.specs.declared.Crossing.{Crossing}
-use Rattle.helpers.specs.declared.Crossing.TheVariants.{At, Nowhere}
 use Rattle.cut.specs.declared.SuccessorType.{SuccessorType}
 use Rattle.cut.specs.declared.SuccessorType.TheVariants.{RightNonObservable}
 use Rattle.walk.specs.declared.Part.{Part}
@@ -27,39 +26,39 @@ use Rattle.walk.proofs.Wrap.{wrapped_cases, up_to_the_last, from_the_first, leng
 -- ---- one edge, by its cuts
 
 -- the parts that two cuts make of what lies between s and e, each of which may be missing
-abbrev laid : Crossing → Crossing → Point → Point → SuccessorType → SuccessorType → SuccessorType → List Part
+abbrev laid : Option Point → Option Point → Point → Point → SuccessorType → SuccessorType → SuccessorType → List Part
 laid a b s e k0 k1 k2 = before a s k0 ++ (part_of (cut_or a s) (cut_or b e) k1 ∷ behind b e k2)
 
 module _ (s e : Point) (k0 k1 k2 : SuccessorType) where
-  laid_count : (a b : Crossing) → (1 ≤ length (laid a b s e k0 k1 k2)) × (length (laid a b s e k0 k1 k2) ≤ 3)
-  laid_count (At p) (At q) = omega arith
-  laid_count (At p) Nowhere = omega arith
-  laid_count Nowhere (At q) = omega arith
-  laid_count Nowhere Nowhere = omega arith
+  laid_count : (a b : Option Point) → (1 ≤ length (laid a b s e k0 k1 k2)) × (length (laid a b s e k0 k1 k2) ≤ 3)
+  laid_count (Some p) (Some q) = omega arith
+  laid_count (Some p) None = omega arith
+  laid_count None (Some q) = omega arith
+  laid_count None None = omega arith
 
-  laid_begins : (a b : Crossing) → (part_at (laid a b s e k0 k1 k2) 0).interval.0 ≡ s
+  laid_begins : (a b : Option Point) → (part_at (laid a b s e k0 k1 k2) 0).interval.0 ≡ s
   unfolding part_of
-  laid_begins (At p) b = refl
-  laid_begins Nowhere b = refl
+  laid_begins (Some p) b = refl
+  laid_begins None b = refl
 
-  laid_joins : (a b : Crossing) (i : ℕ) → suc i < length (laid a b s e k0 k1 k2)
+  laid_joins : (a b : Option Point) (i : ℕ) → suc i < length (laid a b s e k0 k1 k2)
       → (part_at (laid a b s e k0 k1 k2) (suc i)).interval.0 ≡ (part_at (laid a b s e k0 k1 k2) i).interval.1
   unfolding part_of
-  laid_joins (At p) (At q) zero h = refl
-  laid_joins (At p) (At q) (suc zero) h = refl
-  laid_joins (At p) (At q) (suc (suc i)) h = absurd (omega arith)
-  laid_joins (At p) Nowhere zero h = refl
-  laid_joins (At p) Nowhere (suc i) h = absurd (omega arith)
-  laid_joins Nowhere (At q) zero h = refl
-  laid_joins Nowhere (At q) (suc i) h = absurd (omega arith)
-  laid_joins Nowhere Nowhere i h = absurd (omega arith)
+  laid_joins (Some p) (Some q) zero h = refl
+  laid_joins (Some p) (Some q) (suc zero) h = refl
+  laid_joins (Some p) (Some q) (suc (suc i)) h = absurd (omega arith)
+  laid_joins (Some p) None zero h = refl
+  laid_joins (Some p) None (suc i) h = absurd (omega arith)
+  laid_joins None (Some q) zero h = refl
+  laid_joins None (Some q) (suc i) h = absurd (omega arith)
+  laid_joins None None i h = absurd (omega arith)
 
-  laid_ends : (a b : Crossing) → (part_at (laid a b s e k0 k1 k2) (length (laid a b s e k0 k1 k2) - 1)).interval.1 ≡ e
+  laid_ends : (a b : Option Point) → (part_at (laid a b s e k0 k1 k2) (length (laid a b s e k0 k1 k2) - 1)).interval.1 ≡ e
   unfolding part_of
-  laid_ends (At p) (At q) = refl
-  laid_ends (At p) Nowhere = refl
-  laid_ends Nowhere (At q) = refl
-  laid_ends Nowhere Nowhere = refl
+  laid_ends (Some p) (Some q) = refl
+  laid_ends (Some p) None = refl
+  laid_ends None (Some q) = refl
+  laid_ends None None = refl
 
 -- ---- one edge
 

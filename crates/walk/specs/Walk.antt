@@ -1,12 +1,10 @@
 -- One edge of the walk, as document 01 has it under "The walk" and edges_between of polyanya's src/instance.rs has it in its lines, which stand above
 -- what renders them. Rests on the definitions of `cut`. Assumes nothing. A part is the Rust's `Successor` without the edge. The contract of a function
 -- cites the definition of its name with `Of` behind it; `part_of` is for `Part::new`.
-use Rattle.std.specs.Prelude.{ℕ, List, [], ◌∷◌, ◌++◌, get_or, take}
+use Rattle.std.specs.Prelude.{ℕ, Option, Some, None, List, [], ◌∷◌, ◌++◌, get_or, take}
 use Rattle.std.specs.Float.{nan}
 use Rattle.point.specs.declared.Point.{Point}
 use Rattle.point.specs.declared.Segment.{Segment}
-use Rattle.helpers.specs.declared.Crossing.{Crossing}
-use Rattle.helpers.specs.declared.Crossing.TheVariants.{At, Nowhere}
 use Rattle.cut.specs.declared.SuccessorType.{SuccessorType}
 use Rattle.cut.specs.declared.SuccessorType.TheVariants.{LeftNonObservable}
 use Rattle.cut.specs.declared.Cut.{Cut}
@@ -26,22 +24,22 @@ unfoldable pub part_of : Point → Point → SuccessorType → Part
 part_of start end kind = record { interval = (start, end); kind = kind }
 
 -- end_intersection_p.unwrap_or(end_point)
-abbrev pub cut_or : Crossing → Point → Point
-cut_or (At cut) end = cut
-cut_or Nowhere end = end
+abbrev pub cut_or : Option Point → Point → Point
+cut_or (Some cut) end = cut
+cut_or None end = end
 
 -- a cut makes a part before it, from the start of the edge ..
-abbrev pub before : Crossing → Point → SuccessorType → List Part
-before (At cut) start kind = part_of start cut kind ∷ []
-before Nowhere start kind = []
+abbrev pub before : Option Point → Point → SuccessorType → List Part
+before (Some cut) start kind = part_of start cut kind ∷ []
+before None start kind = []
 
 -- .. or one behind it, to the end of the edge
-abbrev pub behind : Crossing → Point → SuccessorType → List Part
-behind (At cut) end kind = part_of cut end kind ∷ []
-behind Nowhere end kind = []
+abbrev pub behind : Option Point → Point → SuccessorType → List Part
+behind (Some cut) end kind = part_of cut end kind ∷ []
+behind None end kind = []
 
 -- the first cut, where there is one, is start_point from then on
-unfoldable pub left_of : Crossing → Segment → Segment
+unfoldable pub left_of : Option Point → Segment → Segment
 left_of at edge = (cut_or at edge.0, edge.1)
 
 -- successors.push(Successor { interval: (start_point, end_intersection_p.unwrap_or(end_point)), .. }); and, with the kind that is next, what lies

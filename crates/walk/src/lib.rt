@@ -6,7 +6,6 @@ ghost use Rattle.std.specs.Prelude.{◌≡◌, ◌∷◌};
 ghost use Rattle.walk.specs.Walk.{part_of, one_of, two_of, three_of, walked_of, held, left_of, rest_by, walk_edge_of};
 
 use cut::{Cut, SuccessorType};
-use helpers::Crossing;
 use point::{Point, Segment};
 
 mod round;
@@ -85,16 +84,10 @@ impl Walked {
 
 // What the right ray leaves of an edge: what is behind its cut, or all of it.
 #[tactic(auto, unfolding(crate::specs::Walk::left_of))]
-fn left_of(at: Crossing, edge: Segment) -> Segment
+fn left_of(at: Option<Point>, edge: Segment) -> Segment
     ensures { result ≡ left_of at edge }
 {
-    match at {
-        Crossing::At(cut) => {
-            let end = edge.1;
-            Segment(cut, end)
-        }
-        Crossing::Nowhere => edge,
-    }
+    Segment(at.unwrap_or(edge.0), edge.1)
 }
 
 // The parts of an edge that the right ray has not cut, by what the left ray does to it.
@@ -104,12 +97,12 @@ fn uncut(second: Cut, edge: Segment, kind: SuccessorType) -> Walked
     let at = second.at;
     let next = second.kind;
     match at {
-        Crossing::At(cut) => {
+        Some(cut) => {
             let between = Part::new(edge.0, cut, kind);
             let behind = Part::new(cut, edge.1, next);
             Walked::two(between, behind, next)
         }
-        Crossing::Nowhere => Walked::one(Part::new(edge.0, edge.1, kind), next),
+        None => Walked::one(Part::new(edge.0, edge.1, kind), next),
     }
 }
 
@@ -120,12 +113,12 @@ fn cut_before(before: Part, second: Cut, edge: Segment, kind: SuccessorType) -> 
     let at = second.at;
     let next = second.kind;
     match at {
-        Crossing::At(cut) => {
+        Some(cut) => {
             let between = Part::new(edge.0, cut, kind);
             let behind = Part::new(cut, edge.1, next);
             Walked::three(before, between, behind, next)
         }
-        Crossing::Nowhere => Walked::two(before, Part::new(edge.0, edge.1, kind), next),
+        None => Walked::two(before, Part::new(edge.0, edge.1, kind), next),
     }
 }
 
@@ -143,10 +136,10 @@ pub fn walk_edge(root: Point, interval: Segment, edge: Segment, kind: SuccessorT
     let rest = left_of(at, edge);
     let second = cut::second_cut(left, right, rest, seen);
     match at {
-        Crossing::At(cut) => {
+        Some(cut) => {
             let before = Part::new(edge.0, cut, kind);
             cut_before(before, second, rest, seen)
         }
-        Crossing::Nowhere => uncut(second, rest, seen),
+        None => uncut(second, rest, seen),
     }
 }

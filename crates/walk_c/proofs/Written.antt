@@ -4,6 +4,7 @@ use mathlib.Core.Path.{◌≡◌, refl, ap}
 use mathlib.Core.List.{List}
 use native.Mathlib.Omega.{arith}
 use lib.ListN.{length, set}
+use Rattle.std.specs.Prelude.{Option, Some}
 use Rattle.point.specs.declared.Point.{Point}
 use Rattle.point.specs.declared.Segment.{Segment}
 use Rattle.cut.specs.declared.SuccessorType.{SuccessorType}
@@ -11,8 +12,6 @@ use Rattle.walk.specs.declared.Part.{Part}
 use Rattle.walk.specs.declared.Walked.{Walked}
 use Rattle.walk.specs.Walk.{Walk, walk_edge_of, walked_of, part_at}
 use Rattle.walk.proofs.Laws.{count_is_their_number, count_is_one_to_three, kind_is_the_walk's, part_is_at_its_place}
-use Rattle.walk_c.specs.declared.Asked.{Asked}
-use Rattle.walk_c.specs.declared.Asked.TheVariants.{Kind}
 use Rattle.walk_c.specs.Walk.{kind_number, parts_written, words_of, walk_number, walk_written}
 
 -- lists that agree up to k write the same k parts
@@ -34,7 +33,7 @@ module _ (root : Point) (interval edge : Segment) (kind : SuccessorType) {walked
   pub at_most_three : walked.count ≤ 3
   at_most_three = rw gave (count_is_one_to_three root interval edge kind).1
 
-  module _ {asked : Asked} (is : asked ≡ Kind kind) where
+  module _ {asked : Option SuccessorType} (is : asked ≡ Some kind) where
     pub number_of_parts : walked.count ≡ walk_number root interval edge asked
     unfolding walk_number
     number_of_parts = rw is as_many

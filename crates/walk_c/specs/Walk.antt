@@ -1,5 +1,5 @@
 -- The numbers of the walk's kinds, and what is written for an edge's intervals, where C calls the walk. Rests on the definitions of `walk`. Assumes nothing.
-use Rattle.std.specs.Prelude.{ℕ, zero, suc, ◌*◌, cond, List, [], ◌∷◌, eqb, length, set}
+use Rattle.std.specs.Prelude.{ℕ, zero, suc, ◌*◌, cond, Option, Some, None, List, [], ◌∷◌, eqb, length, set}
 use Rattle.std.specs.Float.{binary32}
 use Rattle.std.specs.Float.Ieee.{to_bits}
 use Rattle.std.proofs.lemmas.List.Edits.{sets}
@@ -9,8 +9,6 @@ use Rattle.cut.specs.declared.SuccessorType.{SuccessorType}
 use Rattle.cut.specs.declared.SuccessorType.TheVariants.{LeftNonObservable, Observable, RightNonObservable}
 use Rattle.walk.specs.declared.Part.{Part}
 use Rattle.walk.specs.Walk.{Walk, walk_edge_of, part_at}
-use Rattle.walk_c.specs.declared.Asked.{Asked}
-use Rattle.walk_c.specs.declared.Asked.TheVariants.{Kind, Unknown}
 
 -- ---- kinds
 
@@ -20,16 +18,17 @@ kind_number LeftNonObservable = 0
 kind_number Observable = 1
 kind_number RightNonObservable = 2
 
-unfoldable pub kind_asked_of : ℕ → Asked
+-- the kind that a number stands for, or none where it stands for no kind
+unfoldable pub kind_asked_of : ℕ → Option SuccessorType
 kind_asked_of number =
-    cond (eqb number 0) (Kind LeftNonObservable) (cond (eqb number 1) (Kind Observable) (cond (eqb number 2) (Kind RightNonObservable) Unknown))
+    cond (eqb number 0) (Some LeftNonObservable) (cond (eqb number 1) (Some Observable) (cond (eqb number 2) (Some RightNonObservable) None))
 
 -- ---- the answer
 
 -- the number of intervals, or 0 for a kind that is unknown
-unfoldable pub walk_number : Point → Segment → Segment → Asked → ℕ
-walk_number root interval edge (Kind kind) = length (walk_edge_of root interval edge kind).parts
-walk_number root interval edge Unknown = 0
+unfoldable pub walk_number : Point → Segment → Segment → Option SuccessorType → ℕ
+walk_number root interval edge (Some kind) = length (walk_edge_of root interval edge kind).parts
+walk_number root interval edge None = 0
 
 -- ---- what is written
 
@@ -52,6 +51,6 @@ parts_written parts (suc i) before = sets (parts_written parts i before) (5 * i)
 unfoldable pub words_of : Walk → List ℕ → List ℕ
 words_of walk before = set (parts_written walk.parts (length walk.parts) before) 15 (kind_number walk.kind)
 
-unfoldable pub walk_written : Point → Segment → Segment → Asked → List ℕ → List ℕ
-walk_written root interval edge (Kind kind) before = words_of (walk_edge_of root interval edge kind) before
-walk_written root interval edge Unknown before = before
+unfoldable pub walk_written : Point → Segment → Segment → Option SuccessorType → List ℕ → List ℕ
+walk_written root interval edge (Some kind) before = words_of (walk_edge_of root interval edge kind) before
+walk_written root interval edge None before = before

@@ -12,13 +12,6 @@ use patterns::segment;
 use point::Point;
 use walk::Part;
 
-// The kind that a number stands for.
-#[derive(Clone, Copy)]
-enum Asked {
-    Kind(SuccessorType),
-    Unknown,
-}
-
 #[tactic(auto, unfolding(crate::specs::Walk::kind_number))]
 fn kind_number(kind: SuccessorType) -> u32
     ensures { result ≡ kind_number kind }
@@ -30,20 +23,17 @@ fn kind_number(kind: SuccessorType) -> u32
     }
 }
 
+// The kind that a number stands for, or none.
 #[tactic(auto, unfolding(crate::specs::Walk::kind_asked_of))]
-fn kind_asked(number: u32) -> Asked
+fn kind_asked(number: u32) -> Option<SuccessorType>
     ensures { result ≡ kind_asked_of number }
 {
-    if number == 0 {
-        return Asked::Kind(SuccessorType::LeftNonObservable);
+    match number {
+        0 => Some(SuccessorType::LeftNonObservable),
+        1 => Some(SuccessorType::Observable),
+        2 => Some(SuccessorType::RightNonObservable),
+        _ => None,
     }
-    if number == 1 {
-        return Asked::Kind(SuccessorType::Observable);
-    }
-    if number == 2 {
-        return Asked::Kind(SuccessorType::RightNonObservable);
-    }
-    Asked::Unknown
 }
 
 // Writes a part into words 5 * i to 5 * i + 4.
@@ -66,10 +56,8 @@ fn put_parts(out: &mut [u32; 16], parts: [Part; 3], count: usize)
     requires { count ≤ 3 }
     ensures { out.new ≡ parts_written parts count out.old }
 {
-    let mut i = 0;
-    while i < count {
+    for i in 0..count {
         put_part(out, i, parts[i]);
-        i += 1;
     }
 }
 
@@ -96,17 +84,13 @@ pub fn geometry_walk_edge(
         out.old }
 {
     let asked = kind_asked(kind);
-    match asked {
-        Asked::Kind(kind) => {
-            let root = Point::from_bits(rx, ry);
-            let interval = segment(i0x, i0y, i1x, i1y);
-            let walked = walk::walk_edge(root, interval, segment(ax, ay, bx, by), kind);
-            let parts = walked.parts;
-            let next = walked.kind;
-            put_parts(out, parts, walked.count);
-            out[15] = kind_number(next);
-            walked.count as u32
-        }
-        Asked::Unknown => 0,
-    }
+    let Some(kind) = asked else {
+        return 0;
+    };
+    let root = Point::from_bits(rx, ry);
+    let interval = segment(i0x, i0y, i1x, i1y);
+    let walked = walk::walk_edge(root, interval, segment(ax, ay, bx, by), kind);
+    put_parts(out, walked.parts, walked.count);
+    out[15] = kind_number(walked.kind);
+    walked.count as u32
 }

@@ -1,9 +1,7 @@
 -- Document 01, "Fixed examples": its whole example from its bytes to its bytes, as one sentence. proofs/Example proves it. Definitions only. Assumes nothing.
-use Rattle.std.specs.Prelude.{ℕ, ◌≡◌, List, [], ◌∷◌, ◌++◌, replicate}
+use Rattle.std.specs.Prelude.{ℕ, ◌≡◌, List, [], ◌∷◌, ◌++◌, Ok, replicate}
 use Rattle.std.specs.Float.{binary32}
 use Rattle.std.specs.Float.Ieee.{of_bits}
-use Rattle.route.specs.declared.Judged.TheVariants.{Accepted}
-use Rattle.judge.specs.declared.Verdict.TheVariants.{Read}
 use Rattle.judge.specs.Verdict.{verdict_of}
 use Rattle.writing.specs.declared.Answer.TheVariants.{Found}
 use Rattle.places.specs.Layout.{Work}
@@ -69,4 +67,4 @@ pub record WholeExample : Type 0 where
   pub found : (table : List ℕ) → (example table).answer ≡ Found 1 96
   pub written : (table : List ℕ) → (example table).out ≡ route ++ replicate 32 7
   pub untouched : (table : List ℕ) → (example table).lent.table ≡ table
-  pub accepted : verdict_of 8 vertices polygons question route ≡ Read Accepted
+  pub accepted : verdict_of 8 vertices polygons question route ≡ Ok tt

@@ -1,21 +1,22 @@
 -- A word that was written reads back, what stands beside it stays, and a word is its four bytes. Where a law asks that `at + 4` is at most the length,
 -- the word lies within the bytes; the others hold past the end too. Rests on the laws of any number of bytes, in Bytes and Runs. Assumes nothing.
-use Prim.Native.Nat.{ℕ, suc, ◌+◌, ◌*◌, ◌/◌, ◌%◌, ◌^◌, ◌≤◌, ◌<◌}
+use Prim.Native.Nat.{ℕ, suc, ◌+◌, ◌-◌, ◌*◌, ◌^◌, ◌≤◌, ◌<◌}
 use mathlib.Core.Path.{◌≡◌, refl, sym, ap, ◌∙◌}
 use mathlib.Core.Logic.{◌⊎◌, inl, inr}
-use mathlib.Core.List.{List, [], ◌∷◌, ◌++◌}
+use mathlib.Core.List.{List, [], ◌∷◌, ◌++◌, append_assoc}
 use native.Mathlib.Nat.{div-div-eq-div-mul, add-zero, add_assoc}
-use native.Mathlib.Numerals.{add-one, add-two, add-three}
 use native.Mathlib.Omega.{arith}
+use borrow.Rule.Slice.PartMut.{put_mid}
 use lib.Dec.{lit<}
-use lib.ListN.{length, get_or, take, drop, set, get_or-append}
-use lib.Seq.{sets, length-sets, take_at, drop-drop, get_or-drop, get_or-take, drop-append-add}
+use lib.ListN.{length, get_or, take, drop, get_or-append}
+use lib.Seq.{sets, sets-eq, length-sets, take_at, drop-drop, get_or-drop, get_or-take, drop-append-add}
+use Rattle.std.specs.Int.{w32, to_le_bytes}
 use Rattle.word.specs.Word.{Bytes, little_endian, bytes_of, word_at, put_word}
 use Rattle.word.proofs.Bytes.{bytes_take, bytes_drop, bytes_sets, length_bytes_of, bytes_of_are_bytes, little_endian_bytes_of}
 use Rattle.word.proofs.Bytes.{bytes_of_little_endian, little_endian_tells, little_endian_take, little_endian_tells_each}
 use Rattle.word.proofs.Runs.{apart_sets, apart_byte, sets_at, sets_same, length_part}
 
--- ---- the code's form: four bytes, each by its place
+-- ---- std's form: four bytes, each by its place
 
 step : (n at : ℕ) (bytes : List ℕ) → little_endian (take (suc n) (drop at bytes)) ≡ get_or bytes at 0 + 256 * little_endian (take n (drop (at + 1) bytes))
 step n at bytes = little_endian_take n (drop at bytes) ∙ rw (get_or-drop, add-zero, drop-drop)
@@ -26,11 +27,13 @@ unfolding word_at
 word_by_bytes bytes at =
     rw (step 3 at bytes, step 2 (at + 1) bytes, add_assoc at 1 1, step 1 (at + 2) bytes, add_assoc at 2 1, step 0 (at + 3) bytes) (omega arith)
 
-pub put_by_bytes : (bytes : List ℕ) (at w : ℕ)
-    → put_word bytes at w ≡ set (set (set (set bytes at (w % 0x100)) (at + 1) (w / 0x100 % 0x100)) (at + 2) (w / 0x10000 % 0x100)) (at + 3)
-    (w / 0x1000000 % 0x100)
+pub put_by_bytes : (bytes : List ℕ) (at w : ℕ) → at + 4 ≤ length bytes → put_word bytes at w ≡ put_mid at (at + 4 - at) bytes (to_le_bytes w32 w)
 unfolding put_word
-put_by_bytes bytes at w = rw (add-one, add-two, add-three, div-div-eq-div-mul w 256 256, div-div-eq-div-mul w 65536 256)
+put_by_bytes bytes at w h =
+    let four : at + 4 - at ≡ 4 = omega arith in
+    sets-eq (bytes_of 4 w) bytes at h
+    ∙ append_assoc (take at bytes) (bytes_of 4 w) (drop (at + 4) bytes)
+    ∙ rw (four, drop-drop 4 at bytes, div-div-eq-div-mul w 256 256, div-div-eq-div-mul w 65536 256)
 
 -- ---- writing
 

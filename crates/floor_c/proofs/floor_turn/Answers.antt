@@ -5,9 +5,9 @@ use Rattle.floor_c.specs.Numbers.{turn_number}
 use Rattle.floor_c.proofs.Marks.{marks_told}
 use Rattle.floor_c.proofs.floor_turn.Goals as goal
 
-pub returns-in-Accepted : goal.returns-in-Accepted
+pub returns-in-Ok : goal.returns-in-Ok
 unfolding turn_number
-returns-in-Accepted c =
-    let right = sym c.look_at_floor.ensures.value ∙ c.in-Accepted.is in
-    let plan = its_plan 8 _ _ (omega arith) (omega arith) right _ c.look_at_floor.ensures.plan_after in
+returns-in-Ok c =
+    let right = sym c.in-Ok.ensures.value in
+    let plan = its_plan 8 _ _ (omega arith) (omega arith) right _ c.in-Ok.ensures.plan_after in
     rw right (c.mark.ensures ∙ marks_told 8 _ _ plan _)

@@ -4,8 +4,8 @@ use Rattle.line.specs.Put.{put_at}
 use Rattle.says.specs.Words.{laid}
 use Rattle.line.proofs.put.Goals as goal
 
-pub returns-clause-room_after : goal.returns-clause-room_after
+pub returns : goal.returns
 unfolding put_at laid
-returns-clause-room_after c =
+returns c =
     let n : c.args.from + length c.args.text.now - c.args.from ≡ length c.args.text.now = omega arith in
-    rw (n, c.copy_from_slice.ensures.after)
+    (omega arith, rw (n, c.copy_from_slice.ensures.after))

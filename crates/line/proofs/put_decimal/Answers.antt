@@ -3,12 +3,7 @@ use Rattle.std.proofs.Common.{◌∙◌}
 use Rattle.line.proofs.Decimals.{spelled}
 use Rattle.line.proofs.put_decimal.Goals as goal
 
-pub returns-clause-value : goal.returns-clause-value
-returns-clause-value c =
+pub returns-clause-put : goal.returns-clause-put
+returns-clause-put c =
     let same = c.decimal-n.ensures.digits ∙ spelled _ _ c.decimal-n.ensures.len in
-    rw same at c.put.ensures.value
-
-pub returns-clause-room_after : goal.returns-clause-room_after
-returns-clause-room_after c =
-    let same = c.decimal-n.ensures.digits ∙ spelled _ _ c.decimal-n.ensures.len in
-    rw same at c.put.ensures.room_after
+    rw same at c.put.ensures

@@ -2,7 +2,7 @@
 use Rattle.line.proofs.Pieces.{front_is}
 use Rattle.line.proofs.put_words.Goals as goal
 
-pub returns-clause-room_after : goal.returns-clause-room_after
-returns-clause-room_after c =
+pub returns-clause-put : goal.returns-clause-put
+returns-clause-put c =
     let same = front_is _ _ c.words-n.ensures.value c.words-n.ensures.room_after in
-    rw same at c.put.ensures.room_after
+    rw same at c.put.ensures

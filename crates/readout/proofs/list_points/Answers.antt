@@ -23,12 +23,12 @@ enter-next-requires c =
 pub put_root-requires : goal.put_root-requires
 put_root-requires c =
     place_for_root _ _ _ _ _ _ c.loop-i.node c.loop-i.i c.loop-i.invariant c.loop-i-test.true c.requires.route_in_bounds
-    (c.enter-next.ensures ∙ ap (enter _ _) c.step_in-step.ensures)
+    (c.enter-next.ensures ∙ ap (enter _ _) c.step-step.ensures)
 
 pub loop-i-preserved : goal.loop-i-preserved
 loop-i-preserved c =
     places_on _ _ _ _ _ _ c.loop-i.node c.loop-i.i c.loop-i.invariant c.loop-i-test.true
-    (c.enter-next.ensures ∙ ap (enter _ _) c.step_in-step.ensures) c.put_root.ensures
+    (c.enter-next.ensures ∙ ap (enter _ _) c.step-step.ensures) c.put_root.ensures
 
 -- ---- behind the last step
 

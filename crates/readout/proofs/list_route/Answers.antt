@@ -8,29 +8,29 @@ use Rattle.readout.proofs.list_route.Goals as goal
 pub overflow_sub-last : goal.overflow_sub-last
 overflow_sub-last c = omega (arith, length_gives _ c.requires.whole)
 
-pub points_at-count-requires : goal.points_at-count-requires
-points_at-count-requires c = omega (arith, length_gives _ c.requires.whole)
+pub invariant_of-end : goal.invariant_of-end
+invariant_of-end c = record { inside = omega (arith, length_gives _ c.requires.whole) }
 
 -- ---- no room
 
 pub returns-then-points-count-clause-result_value : goal.returns-then-points-count-clause-result_value
 unfolding records
 returns-then-points-count-clause-result_value c =
-    (short_is _ c.args.points.now _ (c.points_at-count.ensures ∙ c.requires.counted) c.if-points-count.true).0
+    (short_is _ c.args.points.now _ (c.points-count.ensures ∙ c.requires.counted) c.if-points-count.true).0
 
 pub returns-then-points-count-clause-points_after : goal.returns-then-points-count-clause-points_after
 unfolding records
 returns-then-points-count-clause-points_after c =
-    (short_is _ c.args.points.now _ (c.points_at-count.ensures ∙ c.requires.counted) c.if-points-count.true).1
+    (short_is _ c.args.points.now _ (c.points-count.ensures ∙ c.requires.counted) c.if-points-count.true).1
 
 -- ---- room
 
 pub returns-clause-result_value : goal.returns-clause-result_value
 unfolding records
 returns-clause-result_value c =
-    (listed_is _ c.args.points.now _ (c.points_at-count.ensures ∙ c.requires.counted) _ c.if-points-count.false c.list_points.ensures).0
+    (listed_is _ c.args.points.now _ (c.points-count.ensures ∙ c.requires.counted) _ c.if-points-count.false c.list_points.ensures).0
 
 pub returns-clause-points_after : goal.returns-clause-points_after
 unfolding records
 returns-clause-points_after c =
-    (listed_is _ c.args.points.now _ (c.points_at-count.ensures ∙ c.requires.counted) _ c.if-points-count.false c.list_points.ensures).1
+    (listed_is _ c.args.points.now _ (c.points-count.ensures ∙ c.requires.counted) _ c.if-points-count.false c.list_points.ensures).1

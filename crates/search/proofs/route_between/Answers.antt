@@ -6,13 +6,13 @@ use Rattle.search.proofs.route_between.Goals as goal
 
 -- ---- no place
 
-pub returns-then-places-eq0 : goal.returns-then-places-eq0
-returns-then-places-eq0 c = between_none _ _ _ _ _ c.places_in-places.ensures c.if-places-eq0.true
+pub returns-then-places-eq0-clause-searched : goal.returns-then-places-eq0-clause-searched
+returns-then-places-eq0-clause-searched c = between_none _ _ _ _ _ c.places_of-places.ensures c.if-places-eq0.true
 
 -- ---- a route
 
 pub route_from-requires-clause-room : goal.route_from-requires-clause-room
-route_from-requires-clause-room c = (places_room _ c.places_in-places.ensures, omega (arith, c.if-places-eq0.false))
+route_from-requires-clause-room c = (places_room _ c.places_of-places.ensures, omega (arith, c.if-places-eq0.false))
 
-pub returns : goal.returns
-returns c = between_on _ _ _ _ _ c.places_in-places.ensures c.if-places-eq0.false c.route_from.ensures
+pub returns-clause-searched : goal.returns-clause-searched
+returns-clause-searched c = between_on _ _ _ _ _ c.places_of-places.ensures c.if-places-eq0.false c.route_from.ensures.searched

@@ -6,14 +6,15 @@ use Rattle.walk.specs.declared.round.Round.{Round}
 use Rattle.walk.specs.Walk.{parts_of, part_at}
 use Rattle.walk.specs.Round.{successors_on}
 use Rattle.walk.specs.Turns.{edge_number_of, next_of}
-use Rattle.plan.specs.Plan.{slots_in, is_marked}
-use Rattle.stored.specs.Stored.{Floor, Polygon, record_in, floor_in, vertices_of}
+use Rattle.plan.specs.Plan.{is_marked}
+use Rattle.stored.specs.Stored.{Floor, Polygon, record_in, floor_in, vertices_of, edge_of}
 use Rattle.edges.specs.Ground.{Ground}
+use Rattle.edges.proofs.Held.{ground}
 use Rattle.steps.specs.declared.Node.{Node}
 use Rattle.steps.specs.Steps.{steps_over}
-use Rattle.going.specs.Going.{walked_at, walked_on, Yielded, Stands}
-use Rattle.going.proofs.Rounds.{walked_as_on, on_yields, turning}
-use Rattle.going.proofs.Stepping.{polygon_lies, edge_inside}
+use Rattle.going.specs.Going.{walk_by, walked_on, Yielded, Stands}
+use Rattle.going.proofs.Rounds.{its_polygon, walked_as_on, on_yields, turning}
+use Rattle.going.proofs.Stepping.{edge_inside, edge_there}
 use Rattle.going.proofs.Parts.{from_part}
 use Rattle.seek.specs.Seek.{is_among, edge_stands, part_stands}
 use Rattle.seek.proofs.Seeking.{none_over, part_found, part_passed, parts_passed, part_decides}
@@ -21,23 +22,27 @@ use Rattle.seek.proofs.look_on_edge.Goals as goal
 
 -- ---- what is known
 
--- the edge by its number, and what was walked on it
-record Looking (plan vs ps : List ℕ) (node : Node) (round : Round) (edge : ℕ) (walked : Walked) : Type 0 where
+-- the node's polygon, the edge by its number, and what was walked on it
+record Looking (plan vs ps : List ℕ) (node : Node) (round : Round) (q : Polygon) (edge : ℕ) (walked : Walked) : Type 0 where
   stands : Stands plan vs ps node
   ground : Ground plan vs ps
+  its : q ≡ record_in plan ps node.polygon
   numbered : edge ≡ edge_number_of round
-  walks : walked ≡ walked_at (floor_in plan vs ps) node edge round.kind
+  walks : walked ≡ walk_by node (edge_of (vertices_of vs) q edge) round.kind
 
-module _ {plan vs ps : List ℕ} {node : Node} {round : Round} {edge : ℕ} {walked : Walked} (looking : Looking plan vs ps node round edge walked) where
+known : {plan vs ps : List ℕ} {node : Node} {round : Round} {q : Polygon} {edge : ℕ} {walked : Walked} → Stands plan vs ps node
+    → Ground plan vs ps → q ≡ record_in plan ps node.polygon → edge ≡ edge_number_of round
+    → walked ≡ walk_by node (edge_of (vertices_of vs) q edge) round.kind → Looking plan vs ps node round q edge walked
+known s g p n w = record { stands = s; ground = g; its = p; numbered = n; walks = w }
+
+module _ {plan vs ps : List ℕ} {node : Node} {round : Round} {q : Polygon} {edge : ℕ} {walked : Walked}
+    (looking : Looking plan vs ps node round q edge walked) where
   abbrev f : Floor
   f = floor_in plan vs ps
 
-  abbrev its : Polygon
-  its = record_in plan ps node.polygon
-
   -- what the code walks is what the round's edge yields
   is_on : walked ≡ walked_on f node round
-  is_on = walked_as_on f node round looking.numbered looking.walks
+  is_on = walked_as_on f node round (looking.its ∙ sym (its_polygon plan vs ps node looking.stands)) looking.numbered looking.walks
 
   yields : Yielded walked
   yields = subst Yielded (sym is_on) (on_yields f node round)
@@ -61,10 +66,15 @@ module _ {plan vs ps : List ℕ} {node : Node} {round : Round} {edge : ℕ} {wal
     as_said : from 0 ≡ sought
     as_said = ap₂ (λ (e : ℕ) (w : Walked). is_among (from_part f node e w 0) file i) looking.numbered is_on
 
-    nowhere : edge_stands its edge file i ≡ false → false ≡ sought
-    nowhere n = sym (sym as_said ∙ none_over plan vs ps node looking.stands file i edge n (parts_of walked))
+    nowhere : edge_stands q edge file i ≡ false → false ≡ sought
+    nowhere n =
+        let on = sym (ap (λ (p : Polygon). edge_stands p edge file i) looking.its) ∙ n in
+        sym (sym as_said ∙ none_over plan vs ps node looking.stands file i edge on (parts_of walked))
 
-    module _ (named : edge_stands its edge file i ≡ true) where
+    module _ (stands : edge_stands q edge file i ≡ true) where
+      named : edge_stands (record_in plan ps node.polygon) edge file i ≡ true
+      named = sym (ap (λ (p : Polygon). edge_stands p edge file i) looking.its) ∙ stands
+
       found : (k : ℕ) → from 0 ≡ from k → k < walked.count → here k ≡ true → true ≡ sought
       found k inv l t = sym (sym as_said ∙ part_found plan vs ps node looking.stands file i looking.ground edge named walked yields k inv l t)
 
@@ -90,103 +100,96 @@ module _ {plan vs ps : List ℕ} {node : Node} {round : Round} {edge : ℕ} {wal
 
 pub edge-edge-requires : goal.edge-edge-requires
 edge-edge-requires c =
-    let t = turning _ _ _ c.args.node c.requires.stands.0 c.args.round c.requires.goes.0 c.requires.goes.1 in (t.entry_in, t.taken_in)
+    let t = turning _ _ _ _ c.requires.stands c.args.round c.requires.goes.0 c.requires.goes.1 in (t.entry_in, t.taken_in)
 
 pub is_over-over-requires : goal.is_over-over-requires
 is_over-over-requires c =
-    let inside = edge_inside _ _ _ c.args.node c.requires.stands.0 c.args.round c.requires.goes.0 c.requires.goes.1 in (
-      polygon_lies _ _ _ c.args.node c.requires.stands.0,
-      subst (λ (n : ℕ). n < slots_in c.args.plan.now) (sym c.edge-edge.ensures) inside,
-      c.requires.goes.2,
-    )
+    rw (c.edge-edge.ensures, c.requires.its) (edge_inside _ _ _ _ c.requires.stands c.args.round c.requires.goes.0 c.requires.goes.1)
 
 pub walk-walked-requires : goal.walk-walked-requires
 walk-walked-requires c =
-    let t = turning _ _ _ c.args.node c.requires.stands.0 c.args.round c.requires.goes.0 c.requires.goes.1 in
-    (c.requires.stands.0, rw c.edge-edge.ensures t.edge_in)
+    rw (c.edge-edge.ensures, c.requires.its) (edge_there _ _ _ _ c.requires.stands c.args.round c.requires.goes.0 c.requires.goes.1)
+
+-- ---- its parts, and the round behind it
 
 pub returns-then-not-over-clause-found_value : goal.returns-then-not-over-clause-found_value
 returns-then-not-over-clause-found_value c =
-    let looking : Looking c.args.plan.now c.args.vertices.now c.args.polygons.now c.args.node c.args.round c.edge-edge.result c.walk-walked.result =
-    record { stands = c.requires.stands.0; ground = c.requires.stands.1; numbered = c.edge-edge.ensures; walks = c.walk-walked.ensures } in
-    nowhere looking c.args.route.now c.args.i (sym c.is_over-over.ensures ∙ c.if-not-over.true)
+    let k = known c.requires.stands (ground c.args.floor.now.accepted) c.requires.its c.edge-edge.ensures c.walk-walked.ensures in
+    nowhere k c.args.on_file.route.now c.args.on_file.number (sym c.is_over-over.ensures ∙ c.if-not-over.true)
 
 pub returns-then-not-over-clause-next_value : goal.returns-then-not-over-clause-next_value
 returns-then-not-over-clause-next_value c =
-    let looking : Looking c.args.plan.now c.args.vertices.now c.args.polygons.now c.args.node c.args.round c.edge-edge.result c.walk-walked.result =
-    record { stands = c.requires.stands.0; ground = c.requires.stands.1; numbered = c.edge-edge.ensures; walks = c.walk-walked.ensures } in
-    next_is looking c.next-next.ensures
-
--- ---- its parts
+    next_is (known c.requires.stands (ground c.args.floor.now.accepted) c.requires.its c.edge-edge.ensures c.walk-walked.ensures) c.next-next.ensures
 
 pub returns-then-walked-lt1-clause-found_value : goal.returns-then-walked-lt1-clause-found_value
 returns-then-walked-lt1-clause-found_value c =
-    let looking : Looking c.args.plan.now c.args.vertices.now c.args.polygons.now c.args.node c.args.round c.edge-edge.result c.walk-walked.result =
-    record { stands = c.requires.stands.0; ground = c.requires.stands.1; numbered = c.edge-edge.ensures; walks = c.walk-walked.ensures } in
-    ended looking c.args.route.now c.args.i (sym c.is_over-over.ensures ∙ c.if-not-over.false) 0 refl (omega (arith, c.if-walked-lt1.true))
+    let k = known c.requires.stands (ground c.args.floor.now.accepted) c.requires.its c.edge-edge.ensures c.walk-walked.ensures in
+    let named = sym c.is_over-over.ensures ∙ c.if-not-over.false in
+    ended k c.args.on_file.route.now c.args.on_file.number named 0 refl (omega (arith, c.if-walked-lt1.true))
 
 pub returns-then-walked-lt1-clause-next_value : goal.returns-then-walked-lt1-clause-next_value
 returns-then-walked-lt1-clause-next_value c =
-    let looking : Looking c.args.plan.now c.args.vertices.now c.args.polygons.now c.args.node c.args.round c.edge-edge.result c.walk-walked.result =
-    record { stands = c.requires.stands.0; ground = c.requires.stands.1; numbered = c.edge-edge.ensures; walks = c.walk-walked.ensures } in
-    next_is looking c.next-next.ensures
+    next_is (known c.requires.stands (ground c.args.floor.now.accepted) c.requires.its c.edge-edge.ensures c.walk-walked.ensures) c.next-next.ensures
 
 pub returns-then-is_part-clause-found_value : goal.returns-then-is_part-clause-found_value
 returns-then-is_part-clause-found_value c =
-    let looking : Looking c.args.plan.now c.args.vertices.now c.args.polygons.now c.args.node c.args.round c.edge-edge.result c.walk-walked.result =
-    record { stands = c.requires.stands.0; ground = c.requires.stands.1; numbered = c.edge-edge.ensures; walks = c.walk-walked.ensures } in
-    found looking c.args.route.now c.args.i (sym c.is_over-over.ensures ∙ c.if-not-over.false) 0 refl (omega (arith, c.if-walked-lt1.false)) (sym c.is_part.ensures ∙ c.if-is_part.true)
+    let k = known c.requires.stands (ground c.args.floor.now.accepted) c.requires.its c.edge-edge.ensures c.walk-walked.ensures in
+    let named = sym c.is_over-over.ensures ∙ c.if-not-over.false in
+    found k c.args.on_file.route.now c.args.on_file.number named 0 refl (omega (arith, c.if-walked-lt1.false)) (sym c.is_part.ensures ∙ c.if-is_part.true)
 
 pub returns-then-is_part-clause-next_value : goal.returns-then-is_part-clause-next_value
 returns-then-is_part-clause-next_value c =
-    let looking : Looking c.args.plan.now c.args.vertices.now c.args.polygons.now c.args.node c.args.round c.edge-edge.result c.walk-walked.result =
-    record { stands = c.requires.stands.0; ground = c.requires.stands.1; numbered = c.edge-edge.ensures; walks = c.walk-walked.ensures } in
-    next_is looking c.next-next.ensures
+    next_is (known c.requires.stands (ground c.args.floor.now.accepted) c.requires.its c.edge-edge.ensures c.walk-walked.ensures) c.next-next.ensures
 
 pub returns-then-walked-lt2-clause-found_value : goal.returns-then-walked-lt2-clause-found_value
 returns-then-walked-lt2-clause-found_value c =
-    let looking : Looking c.args.plan.now c.args.vertices.now c.args.polygons.now c.args.node c.args.round c.edge-edge.result c.walk-walked.result =
-    record { stands = c.requires.stands.0; ground = c.requires.stands.1; numbered = c.edge-edge.ensures; walks = c.walk-walked.ensures } in
-    ended looking c.args.route.now c.args.i (sym c.is_over-over.ensures ∙ c.if-not-over.false) 1 (one_passed looking c.args.route.now c.args.i (sym c.is_over-over.ensures ∙ c.if-not-over.false) (omega (arith, c.if-walked-lt1.false)) (sym c.is_part.ensures ∙ c.if-is_part.false)) (omega (arith, c.if-walked-lt2.true))
+    let k = known c.requires.stands (ground c.args.floor.now.accepted) c.requires.its c.edge-edge.ensures c.walk-walked.ensures in
+    let named = sym c.is_over-over.ensures ∙ c.if-not-over.false in
+    let one = sym c.is_part.ensures ∙ c.if-is_part.false in
+    let passed = one_passed k c.args.on_file.route.now c.args.on_file.number named (omega (arith, c.if-walked-lt1.false)) one in
+    ended k c.args.on_file.route.now c.args.on_file.number named 1 passed (omega (arith, c.if-walked-lt2.true))
 
 pub returns-then-walked-lt2-clause-next_value : goal.returns-then-walked-lt2-clause-next_value
 returns-then-walked-lt2-clause-next_value c =
-    let looking : Looking c.args.plan.now c.args.vertices.now c.args.polygons.now c.args.node c.args.round c.edge-edge.result c.walk-walked.result =
-    record { stands = c.requires.stands.0; ground = c.requires.stands.1; numbered = c.edge-edge.ensures; walks = c.walk-walked.ensures } in
-    next_is looking c.next-next.ensures
+    next_is (known c.requires.stands (ground c.args.floor.now.accepted) c.requires.its c.edge-edge.ensures c.walk-walked.ensures) c.next-next.ensures
 
 pub returns-then-is_part-2-clause-found_value : goal.returns-then-is_part-2-clause-found_value
 returns-then-is_part-2-clause-found_value c =
-    let looking : Looking c.args.plan.now c.args.vertices.now c.args.polygons.now c.args.node c.args.round c.edge-edge.result c.walk-walked.result =
-    record { stands = c.requires.stands.0; ground = c.requires.stands.1; numbered = c.edge-edge.ensures; walks = c.walk-walked.ensures } in
-    found looking c.args.route.now c.args.i (sym c.is_over-over.ensures ∙ c.if-not-over.false) 1 (one_passed looking c.args.route.now c.args.i (sym c.is_over-over.ensures ∙ c.if-not-over.false) (omega (arith, c.if-walked-lt1.false)) (sym c.is_part.ensures ∙ c.if-is_part.false)) (omega (arith, c.if-walked-lt2.false)) (sym c.is_part-2.ensures ∙ c.if-is_part-2.true)
+    let k = known c.requires.stands (ground c.args.floor.now.accepted) c.requires.its c.edge-edge.ensures c.walk-walked.ensures in
+    let named = sym c.is_over-over.ensures ∙ c.if-not-over.false in
+    let one = sym c.is_part.ensures ∙ c.if-is_part.false in
+    let passed = one_passed k c.args.on_file.route.now c.args.on_file.number named (omega (arith, c.if-walked-lt1.false)) one in
+    found k c.args.on_file.route.now c.args.on_file.number named 1 passed (omega (arith, c.if-walked-lt2.false))
+    (sym c.is_part-2.ensures ∙ c.if-is_part-2.true)
 
 pub returns-then-is_part-2-clause-next_value : goal.returns-then-is_part-2-clause-next_value
 returns-then-is_part-2-clause-next_value c =
-    let looking : Looking c.args.plan.now c.args.vertices.now c.args.polygons.now c.args.node c.args.round c.edge-edge.result c.walk-walked.result =
-    record { stands = c.requires.stands.0; ground = c.requires.stands.1; numbered = c.edge-edge.ensures; walks = c.walk-walked.ensures } in
-    next_is looking c.next-next.ensures
+    next_is (known c.requires.stands (ground c.args.floor.now.accepted) c.requires.its c.edge-edge.ensures c.walk-walked.ensures) c.next-next.ensures
 
 pub returns-then-walked-lt3-clause-found_value : goal.returns-then-walked-lt3-clause-found_value
 returns-then-walked-lt3-clause-found_value c =
-    let looking : Looking c.args.plan.now c.args.vertices.now c.args.polygons.now c.args.node c.args.round c.edge-edge.result c.walk-walked.result =
-    record { stands = c.requires.stands.0; ground = c.requires.stands.1; numbered = c.edge-edge.ensures; walks = c.walk-walked.ensures } in
-    ended looking c.args.route.now c.args.i (sym c.is_over-over.ensures ∙ c.if-not-over.false) 2 (two_passed looking c.args.route.now c.args.i (sym c.is_over-over.ensures ∙ c.if-not-over.false) (omega (arith, c.if-walked-lt1.false)) (sym c.is_part.ensures ∙ c.if-is_part.false) (omega (arith, c.if-walked-lt2.false)) (sym c.is_part-2.ensures ∙ c.if-is_part-2.false)) (omega (arith, c.if-walked-lt3.true))
+    let k = known c.requires.stands (ground c.args.floor.now.accepted) c.requires.its c.edge-edge.ensures c.walk-walked.ensures in
+    let named = sym c.is_over-over.ensures ∙ c.if-not-over.false in
+    let one = sym c.is_part.ensures ∙ c.if-is_part.false in
+    let two = sym c.is_part-2.ensures ∙ c.if-is_part-2.false in
+    let passed = two_passed k c.args.on_file.route.now c.args.on_file.number named (omega (arith, c.if-walked-lt1.false)) one
+    (omega (arith, c.if-walked-lt2.false)) two in
+    ended k c.args.on_file.route.now c.args.on_file.number named 2 passed (omega (arith, c.if-walked-lt3.true))
 
 pub returns-then-walked-lt3-clause-next_value : goal.returns-then-walked-lt3-clause-next_value
 returns-then-walked-lt3-clause-next_value c =
-    let looking : Looking c.args.plan.now c.args.vertices.now c.args.polygons.now c.args.node c.args.round c.edge-edge.result c.walk-walked.result =
-    record { stands = c.requires.stands.0; ground = c.requires.stands.1; numbered = c.edge-edge.ensures; walks = c.walk-walked.ensures } in
-    next_is looking c.next-next.ensures
+    next_is (known c.requires.stands (ground c.args.floor.now.accepted) c.requires.its c.edge-edge.ensures c.walk-walked.ensures) c.next-next.ensures
 
 pub returns-clause-found_value : goal.returns-clause-found_value
 returns-clause-found_value c =
-    let looking : Looking c.args.plan.now c.args.vertices.now c.args.polygons.now c.args.node c.args.round c.edge-edge.result c.walk-walked.result =
-    record { stands = c.requires.stands.0; ground = c.requires.stands.1; numbered = c.edge-edge.ensures; walks = c.walk-walked.ensures } in
-    c.is_part-found.ensures ∙ decided looking c.args.route.now c.args.i (sym c.is_over-over.ensures ∙ c.if-not-over.false) (two_passed looking c.args.route.now c.args.i (sym c.is_over-over.ensures ∙ c.if-not-over.false) (omega (arith, c.if-walked-lt1.false)) (sym c.is_part.ensures ∙ c.if-is_part.false) (omega (arith, c.if-walked-lt2.false)) (sym c.is_part-2.ensures ∙ c.if-is_part-2.false)) (omega (arith, c.if-walked-lt3.false))
+    let k = known c.requires.stands (ground c.args.floor.now.accepted) c.requires.its c.edge-edge.ensures c.walk-walked.ensures in
+    let named = sym c.is_over-over.ensures ∙ c.if-not-over.false in
+    let one = sym c.is_part.ensures ∙ c.if-is_part.false in
+    let two = sym c.is_part-2.ensures ∙ c.if-is_part-2.false in
+    let passed = two_passed k c.args.on_file.route.now c.args.on_file.number named (omega (arith, c.if-walked-lt1.false)) one
+    (omega (arith, c.if-walked-lt2.false)) two in
+    c.is_part-found.ensures ∙ decided k c.args.on_file.route.now c.args.on_file.number named passed (omega (arith, c.if-walked-lt3.false))
 
 pub returns-clause-next_value : goal.returns-clause-next_value
 returns-clause-next_value c =
-    let looking : Looking c.args.plan.now c.args.vertices.now c.args.polygons.now c.args.node c.args.round c.edge-edge.result c.walk-walked.result =
-    record { stands = c.requires.stands.0; ground = c.requires.stands.1; numbered = c.edge-edge.ensures; walks = c.walk-walked.ensures } in
-    next_is looking c.next-next.ensures
+    next_is (known c.requires.stands (ground c.args.floor.now.accepted) c.requires.its c.edge-edge.ensures c.walk-walked.ensures) c.next-next.ensures

@@ -1,5 +1,5 @@
 -- `seen::holds` meets its contract: the words passed are those of the key. Assumes nothing.
-use Rattle.std.proofs.Common.{◌≡◌, ℕ, ◌-◌, ◌<◌, ◌≤◌, true, eqb, get_or}
+use Rattle.std.proofs.Common.{◌≡◌, ℕ, ◌<◌, ◌≤◌, true, eqb, get_or}
 use Rattle.seen.specs.Table.{words_per_entry, entry_word}
 use Rattle.seen.proofs.holds.Given as goal
 
@@ -8,6 +8,3 @@ invariant-loop-k l = record {
   within : l.k ≤ words_per_entry;
   equal : (m : ℕ) → m < l.k → eqb (entry_word l.table l.j m) (get_or l.key m 0) ≡ true;
 }
-
-abbrev pub decreases-loop-k : goal.decreases-loop-k
-decreases-loop-k l = words_per_entry - l.k

@@ -10,13 +10,13 @@ put_parts-requires c = at_most_three _ _ _ _ c.walk_edge-walked.ensures
 pub overflow_cast-result : goal.overflow_cast-result
 overflow_cast-result c = omega (arith, at_most_three _ _ _ _ c.walk_edge-walked.ensures)
 
-pub returns-in-Kind-clause-value : goal.returns-in-Kind-clause-value
-returns-in-Kind-clause-value c =
+pub returns-clause-value : goal.returns-clause-value
+returns-clause-value c =
     rw (← c.kind_asked-asked.ensures, ← c.from_bits-root.ensures, ← c.segment-interval.ensures, ← c.segment.ensures)
-    (number_of_parts _ _ _ _ c.walk_edge-walked.ensures c.in-Kind.is)
+    (number_of_parts _ _ _ _ c.walk_edge-walked.ensures c.in-Some.is)
 
-pub returns-in-Kind-clause-out_after : goal.returns-in-Kind-clause-out_after
-returns-in-Kind-clause-out_after c =
+pub returns-clause-out_after : goal.returns-clause-out_after
+returns-clause-out_after c =
     rw (
       ← c.kind_asked-asked.ensures,
       ← c.from_bits-root.ensures,
@@ -24,4 +24,4 @@ returns-in-Kind-clause-out_after c =
       ← c.segment.ensures,
       c.kind_number.ensures,
       c.put_parts.ensures,
-    ) (written_parts _ _ _ _ c.walk_edge-walked.ensures c.in-Kind.is _)
+    ) (written_parts _ _ _ _ c.walk_edge-walked.ensures c.in-Some.is _)

@@ -11,10 +11,8 @@ loop-k-preserved c =
     let out = c.args.out.now in
     let at = c.args.i * 32 in
     let k = c.loop-k.k in
-    let n : length ws ≡ 8 = omega arith in (
-      omega arith,
-      c.write.ensures
-          ∙ ap (λ (x : List ℕ). put_word x (at + k * 4) (get_or ws k 0)) c.loop-k.invariant.1
-          ∙ word_more out ws at k (omega arith)
-          ∙ ap (λ (x : ℕ). sets out at (words_bytes (take x ws))) (sym (add-one k)),
-    )
+    let n : length ws ≡ 8 = omega arith in
+    c.write.ensures
+    ∙ ap (λ (x : List ℕ). put_word x (at + k * 4) (get_or ws k 0)) c.loop-k.invariant
+    ∙ word_more out ws at k (omega arith)
+    ∙ ap (λ (x : ℕ). sets out at (words_bytes (take x ws))) (sym (add-one k))

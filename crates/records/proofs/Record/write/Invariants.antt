@@ -1,11 +1,8 @@
--- `records::Record::write` meets its contract. The loop's invariant: the bytes of the words that were passed are stored, and the length stays. Assumes nothing.
-use Rattle.std.proofs.Common.{◌-◌, ◌*◌, ◌≡◌, ◌≤◌, take}
+-- `records::Record::write` meets its contract. The loop's invariant: the bytes of the words that were passed are stored. Assumes nothing.
+use Rattle.std.proofs.Common.{◌*◌, ◌≡◌, take}
 use Rattle.std.proofs.Math.Seq.{sets}
 use Rattle.route.specs.Record.{words_bytes}
 use Rattle.records.proofs.Record.write.Given as goal
 
 abbrev pub invariant-loop-k : goal.invariant-loop-k
-invariant-loop-k l = (l.k ≤ 8) × (l.out ≡ sets l.initial.out (l.i * 32) (words_bytes (take l.k l.words)))
-
-abbrev pub decreases-loop-k : goal.decreases-loop-k
-decreases-loop-k l = 8 - l.k
+invariant-loop-k l = l.out ≡ sets l.initial.out (l.i * 32) (words_bytes (take l.k l.self.words))

@@ -30,7 +30,7 @@ module _ (plan ps : List ℕ) (node : Node) (planned : PolygonsPlanned plan ps) 
         rw (polygons_counted planned, lt-ltb _ _ listed, lt-ltb _ _ first, lt-ltb _ _ second, polygon_read planned node.polygon listed) e
 
 pub returns-then-node-count-2 : goal.returns-then-node-count-2
-returns-then-node-count-2 c = all_listed _ _ _ c.requires (omega arith) (omega arith) (omega arith) c.is_entered.ensures
+returns-then-node-count-2 c = all_listed _ _ _ c.requires (omega arith) (omega arith) (omega arith) (rw c.at-polygon.ensures at c.is_entered.ensures)
 
 pub returns-else-node-count-2 : goal.returns-else-node-count-2
 returns-else-node-count-2 c = no_second _ _ _ c.requires (omega arith) (omega arith) (omega arith) (le-ltb _ _ c.if-node-count-2.false)

@@ -1,0 +1,2 @@
+-- How long the rooms are.
+pub mod Rooms
