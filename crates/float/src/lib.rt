@@ -9,6 +9,7 @@ ghost use Rattle.std.specs.Float.Ieee.{of_bits, to_bits};
 use std::num::{f32_from_bits_with_nan, f32_to_bits_with_nan};
 
 // The f32 that a bit pattern stands for. Every NaN pattern gives NaN.
+#[tactic(auto, using(crate::proofs::Nan::zeros_nan, crate::proofs::Nan::other_pattern))]
 pub fn from_bits(bits: u32) -> f32
     ensures { result ≡ of_bits binary32 bits }
 {
@@ -16,6 +17,7 @@ pub fn from_bits(bits: u32) -> f32
 }
 
 // The bit pattern of an f32. NaN gives 0x7FC00000.
+#[tactic(auto, using(crate::proofs::Nan::nan_written, crate::proofs::Nan::same_is_no_nan))]
 pub fn to_bits(x: f32) -> u32
     ensures { result ≡ to_bits binary32 x }
 {

@@ -3,9 +3,9 @@
 // names: on which side of a line a point is, mirrored across it, on a segment, in its box. Each f32 operation is in document 01's order.
 
 ghost use Rattle.std.specs.Prelude.{◌≡◌};
-ghost use Rattle.point.specs.Point.{point_of, from_bits_of, minus_of, plus_of, times_of, dot_of, perp_dot_of, length_of, distance_of};
+ghost use Rattle.point.specs.Point.{point_of, from_bits_of, minus_of, plus_of, times_of, same_of, dot_of, perp_dot_of, length_of, distance_of};
 ghost use Rattle.point.specs.Point.{distance_squared_of, project_onto_of, ends_at_of};
-ghost use Rattle.point.specs.Sides.{magnitude_of, side_of, mirror_of, on_segment_of, between_of, in_bounding_box_of, min_of, max_of};
+ghost use Rattle.point.specs.Sides.{magnitude_of, side_of, same_side_of, mirror_of, on_segment_of, between_of, in_bounding_box_of, min_of, max_of};
 
 // A point is two f32. It is also the way from one point to another. Two are == as Rust has it: 0.0 and -0.0 are the same, and a
 // NaN is the same as nothing.
@@ -90,6 +90,14 @@ impl Point {
             x: self.x * by,
             y: self.y * by,
         }
+    }
+
+    // Whether two points are ==.
+    #[tactic(auto, unfolding(crate::specs::Point::same_of))]
+    pub fn same(self, other: Point) -> bool
+        ensures { result ≡ same_of self other }
+    {
+        self == other
     }
 
     #[tactic(auto, unfolding(crate::specs::Point::dot_of))]
@@ -195,6 +203,14 @@ impl Segment {
     {
         point == self.0 || point == self.1
     }
+}
+
+// Whether two sides are ==.
+#[tactic(auto, unfolding(crate::specs::Sides::same_side_of))]
+pub fn same_side(a: EdgeSide, b: EdgeSide) -> bool
+    ensures { result ≡ same_side_of a b }
+{
+    a == b
 }
 
 // The magnitude of x, as far as a comparison can tell: -0.0 stays, and no comparison knows it from 0.0.

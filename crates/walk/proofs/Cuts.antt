@@ -5,10 +5,31 @@ use Rattle.std.specs.Prelude.{Some, None}
 use Rattle.point.specs.declared.Point.{Point}
 use Rattle.point.specs.declared.Segment.{Segment}
 use Rattle.cut.specs.declared.SuccessorType.{SuccessorType}
+use Rattle.walk.specs.declared.Part.{Part}
 use Rattle.walk.specs.declared.Walked.{Walked}
 use Rattle.cut.specs.declared.Cut.{Cut}
 use Rattle.cut.specs.Cut.{first_cut_of, second_cut_of}
-use Rattle.walk.specs.Walk.{part_of, held, walked_of, left_of, rest_by, rest_of, walk_edge_of}
+use Rattle.walk.specs.Walk.{part_of, one_of, two_of, three_of, held, walked_of, left_of, rest_by, rest_of, walk_edge_of}
+
+-- ---- the left ray, on what is left of an edge
+
+module _ (second : Cut) (edge : Segment) (kind : SuccessorType) {v : Walked} where
+  pub second_at : (cut : Point) → second.at ≡ Some cut
+      → v ≡ two_of (part_of edge.0 cut kind) (part_of cut edge.1 second.kind) second.kind → v ≡ walked_of (rest_by second edge kind)
+  second_at cut is h = rw is h
+
+  pub second_none : second.at ≡ None → v ≡ one_of (part_of edge.0 edge.1 kind) second.kind → v ≡ walked_of (rest_by second edge kind)
+  second_none is h = rw is h
+
+  module _ (before : Part) where
+    pub both_at : (cut : Point) → second.at ≡ Some cut
+        → v ≡ three_of before (part_of edge.0 cut kind) (part_of cut edge.1 second.kind) second.kind
+        → v ≡ held (before ∷ (rest_by second edge kind).parts) (rest_by second edge kind).kind
+    both_at cut is h = rw is h
+
+    pub first_only : second.at ≡ None → v ≡ two_of before (part_of edge.0 edge.1 kind) second.kind
+        → v ≡ held (before ∷ (rest_by second edge kind).parts) (rest_by second edge kind).kind
+    first_only is h = rw is h
 
 -- ---- the right ray, on an edge
 

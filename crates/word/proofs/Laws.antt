@@ -1,14 +1,15 @@
 -- A word that was written reads back, what stands beside it stays, and a word is its four bytes. Where a law asks that `at + 4` is at most the length,
 -- the word lies within the bytes; the others hold past the end too. Rests on the laws of any number of bytes, in Bytes and Runs. Assumes nothing.
-use Prim.Native.Nat.{ℕ, suc, ◌+◌, ◌-◌, ◌*◌, ◌^◌, ◌≤◌, ◌<◌}
+use Prim.Native.Nat.{ℕ, suc, ◌+◌, ◌-◌, ◌*◌, ◌/◌, ◌%◌, ◌^◌, ◌≤◌, ◌<◌}
 use mathlib.Core.Path.{◌≡◌, refl, sym, ap, ◌∙◌}
 use mathlib.Core.Logic.{◌⊎◌, inl, inr}
 use mathlib.Core.List.{List, [], ◌∷◌, ◌++◌, append_assoc}
 use native.Mathlib.Nat.{div-div-eq-div-mul, add-zero, add_assoc}
+use native.Mathlib.Numerals.{add-one, add-two, add-three}
 use native.Mathlib.Omega.{arith}
 use borrow.Rule.Slice.PartMut.{put_mid}
 use lib.Dec.{lit<}
-use lib.ListN.{length, get_or, take, drop, get_or-append}
+use lib.ListN.{length, get_or, take, drop, set, get_or-append}
 use lib.Seq.{sets, sets-eq, length-sets, take_at, drop-drop, get_or-drop, get_or-take, drop-append-add}
 use Rattle.std.specs.Int.{w32, to_le_bytes}
 use Rattle.word.specs.Word.{Bytes, little_endian, bytes_of, word_at, put_word}
@@ -16,7 +17,7 @@ use Rattle.word.proofs.Bytes.{bytes_take, bytes_drop, bytes_sets, length_bytes_o
 use Rattle.word.proofs.Bytes.{bytes_of_little_endian, little_endian_tells, little_endian_take, little_endian_tells_each}
 use Rattle.word.proofs.Runs.{apart_sets, apart_byte, sets_at, sets_same, length_part}
 
--- ---- std's form: four bytes, each by its place
+-- ---- four bytes, each by its place: std's form of a read, and a write byte by byte
 
 step : (n at : ℕ) (bytes : List ℕ) → little_endian (take (suc n) (drop at bytes)) ≡ get_or bytes at 0 + 256 * little_endian (take n (drop (at + 1) bytes))
 step n at bytes = little_endian_take n (drop at bytes) ∙ rw (get_or-drop, add-zero, drop-drop)
@@ -27,9 +28,17 @@ unfolding word_at
 word_by_bytes bytes at =
     rw (step 3 at bytes, step 2 (at + 1) bytes, add_assoc at 1 1, step 1 (at + 2) bytes, add_assoc at 2 1, step 0 (at + 3) bytes) (omega arith)
 
-pub put_by_bytes : (bytes : List ℕ) (at w : ℕ) → at + 4 ≤ length bytes → put_word bytes at w ≡ put_mid at (at + 4 - at) bytes (to_le_bytes w32 w)
+pub put_by_bytes : (bytes : List ℕ) (at w : ℕ)
+    → put_word bytes at w ≡ set (set (set (set bytes at (w % 0x100)) (at + 1) (w / 0x100 % 0x100)) (at + 2) (w / 0x10000 % 0x100)) (at + 3)
+    (w / 0x1000000 % 0x100)
 unfolding put_word
-put_by_bytes bytes at w h =
+put_by_bytes bytes at w = rw (add-one, add-two, add-three, div-div-eq-div-mul w 256 256, div-div-eq-div-mul w 65536 256)
+
+-- ---- std's form of writing: the bytes of `to_le_bytes` over a part of the list
+
+pub put_by_std : (bytes : List ℕ) (at w : ℕ) → at + 4 ≤ length bytes → put_word bytes at w ≡ put_mid at (at + 4 - at) bytes (to_le_bytes w32 w)
+unfolding put_word
+put_by_std bytes at w h =
     let four : at + 4 - at ≡ 4 = omega arith in
     sets-eq (bytes_of 4 w) bytes at h
     ∙ append_assoc (take at bytes) (bytes_of 4 w) (drop (at + 4) bytes)

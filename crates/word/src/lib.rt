@@ -14,7 +14,7 @@ pub fn read(bytes: &[u8], at: usize) -> u32
 }
 
 // Stores the u32's four bytes from `at` on, the lowest first. It compiles to one store.
-#[tactic(auto, using(crate::proofs::Laws::put_by_bytes))]
+#[tactic(auto, using(crate::proofs::Laws::put_by_std))]
 pub fn write(bytes: &mut [u8], at: usize, word: u32)
     requires { at + 4 ≤ length bytes.old }
     ensures { bytes.new ≡ put_word bytes.old at word }

@@ -1,0 +1,2 @@
+-- What belongs to no one function: the arm of a definition that a match leads to.
+pub mod Arms
