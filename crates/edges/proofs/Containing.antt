@@ -41,6 +41,9 @@ module _ {vertices : List Point} {q : Polygon} {point : Point} {slots i : ℕ} (
       upto : Upto q slots (i + 1)
       upto = record { all = h.upto.all; low = omega (arith, h.inside l) }
 
+      pub in_with_slots : slots ≤ i + 1 → true ≡ contains_in vertices q point
+      in_with_slots m = rw (ends_with_slots upto m) (sym (every_true _ _ none_here))
+
       pub in_here : i + 1 < slots → {x : ℕ} → x ≡ corner q (i + 1) → x ≡ unused → true ≡ contains_in vertices q point
       in_here m read g = rw (ends_here upto m read g) (sym (every_true _ _ none_here))
 

@@ -81,3 +81,10 @@ module _ {plan vs ps : List ℕ} {p : ℕ} (h : Listed plan vs ps p) where
   -- what `edge` and `contains` ask
   pub listed_corners : Corners (length vs / 8) (record_in plan ps p)
   listed_corners = rw (← h.vertices_planned.counted) h.corners
+
+  -- both ends of an edge are in the vertex list
+  pub corner_stored : (i : ℕ) → i < corner_count (record_in plan ps p) → corner (record_in plan ps p) i < length vs / 8
+  corner_stored i l = corner_below listed_corners i l
+
+  pub after_stored : (i : ℕ) → i < corner_count (record_in plan ps p) → corner_after (record_in plan ps p) i < length vs / 8
+  after_stored i l = after_below listed_corners i l

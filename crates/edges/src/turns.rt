@@ -16,8 +16,10 @@ fn mark_edge(polygon: &StoredPolygon, i: usize, marks: &mut Plan)
     ensures { marks.new ≡ mark_edge polygon.now i marks.old }
 {
     if polygon.across(i).is_none() {
-        marks.mark(polygon.corner(i) as usize);
-        marks.mark(polygon.corner_after(i) as usize);
+        let a = polygon.corner(i) as usize;
+        let b = polygon.corner_after(i) as usize;
+        marks.mark(a);
+        marks.mark(b);
     }
 }
 

@@ -3,15 +3,16 @@ use Prim.Native.Nat.{ℕ, ◌+◌, ◌-◌, ◌≤◌, ◌<◌}
 use native.Mathlib.Nat.{zero-add}
 use native.Mathlib.Omega.{arith}
 use native.Mathlib.Decide.{dec_lt}
-use mathlib.Core.Path.{◌≡◌, sym, subst}
+use mathlib.Core.Path.{◌≡◌, refl, sym, subst}
 use mathlib.Core.Bool.{true, false}
-use mathlib.Core.List.{◌++◌}
+use mathlib.Core.List.{List, ◌++◌}
 use borrow.Author.Tests.{eq-eqb, ne_eqb}
 use lib.Dec.{eqb}
 use lib.ListN.{length, get_or}
+use Rattle.counts.specs.Counts.{every}
 use Rattle.counts.proofs.Laws.{every_true, every_false, every_same}
-use Rattle.stored.specs.Stored.{Polygon, unused, corner, neighbour}
-use Rattle.stored.proofs.Records.{corner_slot, neighbour_slot}
+use Rattle.stored.specs.Stored.{Polygon, unused, slot_at, polygon_at, corner, neighbour}
+use Rattle.stored.proofs.Records.{neighbour_read, corner_slot, neighbour_slot}
 use Rattle.faults.specs.Tests.{rest_unused}
 
 -- those from n on and before i are unused
@@ -40,6 +41,19 @@ unused_fails slot {slots} {n} {i} low high read e =
     let here : i ≡ n + (i - n) = omega (arith, low) in
     sym (every_false (slots - n) (λ k. eqb (slot (n + k)) unused) (i - n) (omega (arith, low, high))
     (subst (λ (v : ℕ). eqb (slot v) unused ≡ false) here (rw (← read) (ne_eqb _ _ e))))
+
+-- by the number of slots that was read off a plan
+pub rest_by_lem : {read s : ℕ} (slot : ℕ → ℕ) (n : ℕ) → read ≡ s → every (read - n) (λ k. eqb (slot (n + k)) unused) ≡ rest_unused slot s n
+unfolding rest_unused
+rest_by_lem {read} slot n e = subst (λ (m : ℕ). every (read - n) (λ k. eqb (slot (n + k)) unused) ≡ every (m - n) (λ k. eqb (slot (n + k)) unused)) e refl
+
+-- by the words of a record
+pub rest_neighbours : (s : ℕ) (bytes : List ℕ) (p n : ℕ)
+    → rest_unused (neighbour (polygon_at s bytes p)) s n ≡ rest_unused (λ i. slot_at s bytes p (s + i)) s n
+unfolding rest_unused
+rest_neighbours s bytes p n =
+    every_same (s - n) (λ k. eqb (neighbour (polygon_at s bytes p) (n + k)) unused) (λ k. eqb (slot_at s bytes p (s + (n + k))) unused)
+    (λ k l. rw (neighbour_read s bytes p (n + k) (omega arith)))
 
 module _ (q : Polygon) where
   pub rest_corners : (n : ℕ) → rest_unused (corner q) (length q.corners) n

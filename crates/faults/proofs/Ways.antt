@@ -1,22 +1,23 @@
 -- Each way through the tests is the definition's, by what the code has found out on it. Assumes nothing.
-use Prim.Native.Nat.{ℕ, ◌+◌, ◌≤◌, ◌<◌}
+use Prim.Native.Nat.{ℕ, ◌+◌, ◌-◌, ◌≤◌, ◌<◌}
 use native.Mathlib.Omega.{arith}
-use mathlib.Core.Path.{◌≡◌, refl, sym, ◌∙◌}
+use mathlib.Core.Path.{◌≡◌, refl, sym, ap, ◌∙◌}
 use mathlib.Core.Bool.{Bool, true, false, not}
 use mathlib.Core.List.{List, ◌++◌}
 use borrow.Author.Count.{below_none, below_more}
 use borrow.Author.Tests.{le-leb, lt-leb, le-ltb, lt-ltb, eq-eqb, ne_eqb, not-true, not-false}
 use lib.Dec.{leb, ltb, eqb}
 use lib.ListN.{length, get_or}
+use Rattle.point.specs.declared.Point.{Point}
 use Rattle.point.proofs.Cases.{and_taken}
 use Rattle.counts.specs.Counts.{every}
 use Rattle.counts.proofs.Laws.{every_true, every_false, some_true, some_false}
 use Rattle.plan.specs.Plan.{polygon_count_in}
 use Rattle.stored.specs.Stored.{Polygon, unused, corner, neighbour, corner_count, corner_after, record_in, polygons_in, PolygonsPlanned}
 use Rattle.stored.proofs.Records.{polygon_read, Upto, upto_none, ends_with_slots, ends_here, goes_on, upto_more}
-use Rattle.faults.specs.Tests.{rest_unused, unlike_earlier, distinct, corners_listed, corners_right}
+use Rattle.faults.specs.Tests.{coordinate_right, point_right, rest_unused, unlike_earlier, distinct, corners_listed, corners_right}
 use Rattle.faults.specs.Tests.{is_back, names_back, link_right, links_right}
-use Rattle.faults.proofs.Rest.{unused_none, unused_all, rest_corners, rest_neighbours_by}
+use Rattle.faults.proofs.Rest.{unused_none, unused_all, rest_by_lem, rest_corners, rest_neighbours_by}
 
 -- ---- a loop that ends at the first that is not so
 
@@ -47,7 +48,30 @@ module _ {b a : Bool} (asked : b ≡ a) where
   pub was_not : not b ≡ true → a ≡ false
   was_not e = sym asked ∙ not-true b e
 
+-- where that was read first
+pub below_read : {b : Bool} {x y : ℕ} (n : ℕ) → b ≡ ltb x n → x ≡ y → b ≡ ltb y n
+below_read n e r = e ∙ ap (λ k. ltb k n) r
+
+pub unused_read : {b : Bool} {x y : ℕ} → b ≡ eqb x unused → x ≡ y → b ≡ eqb y unused
+unused_read e r = e ∙ ap (λ k. eqb k unused) r
+
+-- ---- 4
+
+module _ (p : Point) {b : Bool} (x : b ≡ coordinate_right p.x) where
+  pub point_wrong : b ≡ false → b ≡ point_right p
+  unfolding point_right
+  point_wrong e = rw (← x, e)
+
+  pub point_by_y : b ≡ true → {c : Bool} → c ≡ coordinate_right p.y → c ≡ point_right p
+  unfolding point_right
+  point_by_y e y = rw (← x, e, ← y)
+
 -- ---- 5
+
+-- of the slots of one kind
+pub rest_told : (slot : ℕ → ℕ) (n : ℕ) {read s : ℕ} → read ≡ s → {b : Bool} → b ≡ every (read - n) (λ k. eqb (slot (n + k)) unused)
+    → b ≡ rest_unused slot s n
+rest_told slot n read e = e ∙ rest_by_lem slot n read
 
 module _ (q : Polygon) (j : ℕ) where
   pub earlier_told : {b : Bool} → b ≡ every j (λ i. not (eqb (corner q i) (corner q j))) → b ≡ unlike_earlier q j

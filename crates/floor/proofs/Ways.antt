@@ -4,7 +4,7 @@ use native.Mathlib.Omega.{arith}
 use mathlib.Core.Path.{◌≡◌, sym, ap, ◌∙◌, subst}
 use mathlib.Core.Bool.{Bool, true, false, not}
 use mathlib.Core.List.{List}
-use borrow.Author.Count.{below_more}
+use borrow.Author.Count.{below_none as none_below, below_more}
 use borrow.Author.Tests.{le-leb, lt-leb, lt-ltb, le-ltb, eq-eqb, ne_eqb, not-true, not-false}
 use lib.ListN.{length, get_or}
 use Rattle.std.specs.Prelude.{Option, Some, None, Result, Ok, Err}
@@ -18,6 +18,7 @@ use Rattle.stored.specs.declared.Question.{Question as QuestionOf}
 use Rattle.stored.proofs.Records.{polygons_counted, polygon_read, vertex_count_lem, vertex_is}
 use Rattle.faults.specs.Tests.{length_right, point_right, corners_right, links_right, question_right}
 use Rattle.edges.specs.Where.{polygon_of, turns_marked}
+use Rattle.edges.specs.Ground.{Ground}
 use Rattle.floor.specs.declared.Refusal.{Refusal}
 use Rattle.floor.specs.declared.Refusal.TheVariants.{VertexLength, PolygonLength, Vertex, Corners, Links, Question, StartOutside, GoalOutside}
 use Rattle.floor.specs.declared.Inside.{Inside}
@@ -25,7 +26,7 @@ use Rattle.floor.specs.Look.{bad_vertex, bad_corners, bad_links, at_fault, verti
 use Rattle.floor.specs.Look.{floor_look_of, laid_after, plan_if, plan_after, ask_of, look_of}
 use Rattle.floor.specs.Exactly.{Lists}
 use Rattle.floor.proofs.Exact.{whole_decided}
-use Rattle.floor.proofs.Planned.{slots_laid, lists_right, slots_are}
+use Rattle.floor.proofs.Planned.{slots_laid, lists_right, slots_are, grounded}
 use Rattle.floor.proofs.Looked.{question_length}
 
 -- ---- a loop that ends at the first that is not right
@@ -34,6 +35,9 @@ use Rattle.floor.proofs.Looked.{question_length}
 pub record Right (wrong : ℕ → Bool) (i n : ℕ) : Type 0 where
   pub low : i ≤ n
   pub right : (k : ℕ) → k < i → wrong k ≡ false
+
+pub right_none : {wrong : ℕ → Bool} {n : ℕ} → Right wrong 0 n
+right_none = record { low = omega arith; right = none_below _ }
 
 module _ {wrong : ℕ → Bool} {i n : ℕ} (h : Right wrong i n) where
   pub first_end : n ≤ i → i ≡ first n wrong
@@ -156,7 +160,45 @@ module _ {plan ps : List ℕ} (planned : PolygonsPlanned plan ps) {n : ℕ} (cou
     unfolding links_look_of bad_links
     link_wrong_told l asked e = one_found Links h its_polygons l (asked_not asked e)
 
+-- ---- the lowest record at fault, by a count that was read
+
+pub bad_vertex_is : (vs : List ℕ) {count : ℕ} → count ≡ length vs / 8 → {n : ℕ} → n ≡ count
+    → {v : ℕ} → v ≡ first n (λ k. not (point_right (get_or (vertices_of vs) k origin))) → v ≡ bad_vertex (vertices_of vs)
+unfolding bad_vertex
+bad_vertex_is vs stored counted e = rw (vertex_count_lem vs, ← stored, ← counted) e
+
+module _ {plan ps : List ℕ} (planned : PolygonsPlanned plan ps) {n : ℕ} (counted : n ≡ polygon_count_in plan) {p : ℕ} where
+  pub bad_corners_is : (count : ℕ) → p ≡ first n (λ k. not (corners_right count (polygon_in (polygons_in plan ps) k)))
+      → p ≡ bad_corners count (polygons_in plan ps)
+  unfolding bad_corners
+  bad_corners_is count e = rw (polygons_counted planned, ← counted) e
+
+  pub bad_links_is : p ≡ first n (λ k. not (links_right (polygons_in plan ps) k)) → p ≡ bad_links (polygons_in plan ps)
+  unfolding bad_links
+  bad_links_is e = rw (polygons_counted planned, ← counted) e
+
 -- ---- 4 and 5
+
+module _ {plan vs ps : List ℕ} (vertices : VerticesPlanned plan vs) (polygons : PolygonsPlanned plan ps) {v : ℕ} (bad : v ≡ bad_vertex (vertices_of vs))
+    {n : ℕ} (counted : n ≡ vertex_count_in plan) where
+  vertices_are : length (vertices_of vs) ≡ vertex_count_in plan
+  vertices_are = vertex_count_lem vs ∙ sym vertices.counted
+
+  pub bad_vertex_told : v < n → Err (Vertex v) ≡ records_look_of (floor_in plan vs ps)
+  unfolding records_look_of vertices_look_of
+  bad_vertex_told l = rw (← bad, vertices_are, ← counted, lt-ltb _ _ l)
+
+  module _ (past : n ≤ v) {p : ℕ} (wrong : p ≡ bad_corners (vertex_count_in plan) (polygons_in plan ps))
+      {m : ℕ} (listed_too : m ≡ polygon_count_in plan) where
+    pub bad_corners_told : p < m → Err (Corners p) ≡ records_look_of (floor_in plan vs ps)
+    unfolding records_look_of vertices_look_of polygons_look_of
+    bad_corners_told l =
+        rw (← bad, vertices_are, le-ltb _ _ (rw counted at past), ← wrong, polygons_counted polygons, ← listed_too, lt-ltb _ _ l)
+
+    pub none_told : m ≤ p → Ok tt ≡ records_look_of (floor_in plan vs ps)
+    unfolding records_look_of vertices_look_of polygons_look_of
+    none_told l =
+        rw (← bad, vertices_are, le-ltb _ _ (rw counted at past), ← wrong, polygons_counted polygons, ← listed_too, le-ltb _ _ l)
 
 module _ (plan vs ps : List ℕ) where
   pub records_fault : {r : Refusal} → Err r ≡ vertices_look_of (vertices_of vs) → Err r ≡ records_look_of (floor_in plan vs ps)
@@ -169,6 +211,25 @@ module _ (plan vs ps : List ℕ) where
   records_rest planned e told = rw (← e, vertex_count_lem vs, ← planned.counted) told
 
 -- ---- 6, and the plan
+
+module _ {plan ps : List ℕ} (polygons : PolygonsPlanned plan ps) {p : ℕ} (bad : p ≡ bad_links (polygons_in plan ps))
+    {n : ℕ} (counted : n ≡ polygon_count_in plan) where
+  abbrev its : List Polygon
+  its = polygons_in plan ps
+
+  pub bad_links_told : p < n → Err (Links p) ≡ links_look_of its
+  unfolding links_look_of
+  bad_links_told l = rw (polygons_counted polygons, ← counted, ← bad, lt-ltb _ _ l)
+
+  pub bad_links_plan : p < n → plan ≡ plan_if (links_look_of its) (turns_marked its plan) plan
+  bad_links_plan l = rw (← bad_links_told l)
+
+  pub right_links_told : n ≤ p → Ok tt ≡ links_look_of its
+  unfolding links_look_of
+  right_links_told l = rw (polygons_counted polygons, ← counted, ← bad, le-ltb _ _ l)
+
+  pub right_links_plan : n ≤ p → {after : List ℕ} → after ≡ turns_marked its plan → after ≡ plan_if (links_look_of its) (turns_marked its plan) plan
+  right_links_plan l e = rw (← right_links_told l) e
 
 module _ (plan : List ℕ) (polygons : List Polygon) where
   pub links_plan : {r : Refusal} → Err r ≡ links_look_of polygons → plan ≡ plan_if (links_look_of polygons) (turns_marked polygons plan) plan
@@ -233,6 +294,9 @@ module _ (s : ℕ) (vs ps : List ℕ) {look : Result Unit Refusal} (told : look 
   fault_looked e question = rw (sym told ∙ e)
 
   module _ (e : look ≡ Ok tt) (some : 0 < s) (few : s ≤ 16) (before : List ℕ) {plan : List ℕ} (after : plan ≡ plan_after s vs ps before) where
+    pub looked_ground : Ground plan vs ps
+    looked_ground = grounded s vs ps some few (sym told ∙ e) before after
+
     pub asked_looked : (question : List ℕ) {a : Result Inside Refusal} → a ≡ ask_of (floor_in plan vs ps) question → a ≡ look_of s vs ps question
     unfolding look_of
     asked_looked question g = rw (sym told ∙ e) (g ∙ ap (λ k. ask_of (floor_of k vs ps) question) (slots_are s vs ps some few (sym told ∙ e) before after))

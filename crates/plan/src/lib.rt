@@ -10,7 +10,7 @@ ghost use Rattle.plan.specs.Plan.{most_vertices, most_polygons, most_slots, plan
 use std::marker::Model;
 
 // The words of a plan: 2, 6 of the layer, and 32 of marks.
-const WORDS: usize = 40;
+pub const PLAN: usize = 40;
 
 const SLOTS: usize = 0;
 
@@ -22,10 +22,10 @@ const POLYGONS: usize = 5;
 
 const MARKS: usize = 8;
 
-// Clauses see a plan as the list of its words.
+// Clauses see a plan as the list of its words. Any so many words are one, and each can be read.
 #[derive(Clone, Copy)]
 pub struct Plan {
-    words: [u32; WORDS],
+    pub words: [u32; PLAN],
 }
 
 impl Model for Plan {
@@ -41,7 +41,7 @@ impl Plan {
     pub fn new() -> Plan
         ensures { result ≡ replicate plan_words 0 }
     {
-        Plan { words: [0; WORDS] }
+        Plan { words: [0; PLAN] }
     }
 
     // A word, as a number that is known to fit one.
@@ -99,7 +99,7 @@ impl Plan {
         requires { (slots ≤ most_slots) × (vertices ≤ most_vertices) × (polygons ≤ most_polygons) }
         ensures { self.new ≡ laid slots vertices polygons }
     {
-        self.words = [0; WORDS];
+        self.words = [0; PLAN];
         self.words[SLOTS] = slots as u32;
         self.words[LAYERS] = 1;
         self.words[VERTICES] = vertices as u32;

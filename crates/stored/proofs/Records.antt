@@ -70,7 +70,12 @@ module _ (s : ℕ) (bytes : List ℕ) (p : ℕ) where
             get_or-append_right q.corners q.neighbours i unused (omega (arith, l, corner_slots)) ∙ rw corner_slots
             (subst (λ (k : ℕ). neighbour q (i - s) ≡ slot_at s bytes p k) e (neighbour_read (i - s) (omega (arith, l, h))))
 
--- of the polygon that a record stands for, by the number of slots that was read off a plan
+-- by the number of slots that was read off a plan
+module _ {read s : ℕ} (e : read ≡ s) where
+  pub neighbour_read_by : (bytes : List ℕ) (p i : ℕ) {r : ℕ} → i < s → r ≡ slot_at s bytes p (read + i) → r ≡ neighbour (polygon_at s bytes p) i
+  neighbour_read_by bytes p i {r} h given = subst (λ (k : ℕ). r ≡ slot_at s bytes p (k + i)) e given ∙ sym (neighbour_read s bytes p i h)
+
+-- of the polygon that a record stands for, by that number
 module _ (s : ℕ) (bytes : List ℕ) (p : ℕ) {q : Polygon} (stands : polygon_at s bytes p ≡ q) {read : ℕ} (e : read ≡ s) {i : ℕ}
     (h : i < length q.corners + length q.neighbours) where
   slot_here : i < s + s

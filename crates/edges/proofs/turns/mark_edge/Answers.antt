@@ -5,8 +5,8 @@ use Rattle.edges.proofs.turns.mark_edge.Goals as goal
 pub across-requires : goal.across-requires
 across-requires c = slot_inside _ _ c.requires.0
 
-pub corner-requires : goal.corner-requires
-corner-requires c = slot_inside _ _ c.requires.0
+pub corner-a-requires : goal.corner-a-requires
+corner-a-requires c = slot_inside _ _ c.requires.0
 
-pub corner_after-requires : goal.corner_after-requires
-corner_after-requires c = slot_inside _ _ c.requires.0
+pub corner_after-b-requires : goal.corner_after-b-requires
+corner_after-b-requires c = slot_inside _ _ c.requires.0
