@@ -1,11 +1,11 @@
 -- What becomes of a node that was made: each way through the code is the definition's. Assumes nothing.
 use Prim.Native.Nat.{ℕ, ◌+◌, ◌*◌, ◌≤◌, ◌<◌}
-use mathlib.Core.Path.{◌≡◌, sym, ◌∙◌}
+use mathlib.Core.Path.{◌≡◌, refl, sym, ◌∙◌}
 use mathlib.Core.Bool.{Bool, true, false}
 use mathlib.Core.List.{List}
 use native.Mathlib.Omega.{arith}
-use borrow.Author.Tests.{lt-ltb, le-ltb, lt-leb, le-leb}
-use lib.Ieee.{Float, binary32, add, lt, is_nan}
+use borrow.Author.Tests.{eq-eqb, lt-ltb, le-ltb, lt-leb, le-leb}
+use lib.Ieee.{Float, nan, inf, fin, up, down, binary32, add, lt, ne, is_nan}
 use lib.ListN.{length}
 use Rattle.point.specs.declared.Point.{Point}
 use Rattle.point.specs.Point.{same_of}
@@ -25,6 +25,16 @@ use Rattle.machine.specs.declared.Origin.{Origin}
 use Rattle.places.specs.Layout.{work_of, record_for, record_distance, record_put, distance_put, put_floats, put_words}
 use Rattle.machine.specs.Search.{State, state_of, making, took_place, took_record, beaten_in, recorded, queued, kept, placed, taken, made}
 use Rattle.machine.specs.Sound.{Fit}
+
+-- ---- NaN is what differs from itself
+
+pub differs : (x : Float) → ne x x ≡ is_nan x
+unfolding ne is_nan
+differs nan = refl
+differs (inf true) = refl
+differs (inf false) = refl
+differs (fin true m d) = rw (eq-eqb (m * up d * down d) _ refl)
+differs (fin false m d) = rw (eq-eqb (m * up d * down d) _ refl)
 
 -- ---- kept or dropped
 

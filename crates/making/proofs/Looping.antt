@@ -1,12 +1,15 @@
 -- The loops over a node's edges and over an edge's parts: what was to be made is what is left to be made. Assumes nothing.
-use Prim.Native.Nat.{ℕ, ◌+◌, ◌≤◌, ◌<◌}
+use Prim.Native.Nat.{ℕ, ◌+◌, ◌*◌, ◌≤◌, ◌<◌}
 use native.Mathlib.Omega.{arith}
 use mathlib.Core.Path.{◌≡◌, refl, sym, ap, ap₂, ◌∙◌, subst}
-use mathlib.Core.Bool.{Bool, true, false, cond, not}
+use mathlib.Core.Bool.{Bool, true, false, cond, not, ◌||◌}
 use mathlib.Core.List.{List, [], ◌++◌}
 use borrow.Author.Tests.{not-true, not-false}
-use lib.Dec.{eqb}
+use lib.Dec.{eqb, leb, ltb}
+use lib.Ieee.{Float, binary32, add, is_nan}
+use lib.ListN.{length}
 use Rattle.std.specs.Prelude.{Option, Some, None}
+use Rattle.helpers.specs.Helpers.{heuristic_of}
 use Rattle.cut.specs.declared.SuccessorType.{SuccessorType}
 use Rattle.walk.specs.declared.Walked.{Walked}
 use Rattle.walk.specs.declared.round.Round.{Round}
@@ -16,25 +19,114 @@ use Rattle.walk.specs.Turns.{is_over_of, edge_number_of, next_of}
 use Rattle.stored.specs.Stored.{Floor, floor_in, record_in}
 use Rattle.edges.specs.Ground.{Ground}
 use Rattle.route.specs.declared.Step.{Step}
-use Rattle.steps.specs.Steps.{and_then, step_of, steps_over, steps_from}
+use Rattle.route.specs.Step.{kind_number}
+use Rattle.steps.specs.declared.Node.{Node}
+use Rattle.steps.specs.Steps.{enter, and_then, step_of, steps_over, steps_from}
 use Rattle.going.specs.Going.{walked_on, begin_round, left_in, Yielded, Goes}
 use Rattle.going.proofs.Rounds.{on_yields, begin_goes, next_goes, edges_left, fewer_left}
 use Rattle.going.proofs.Left.{left_begin, left_over, steps_left_next}
 use Rattle.going.proofs.Parts.{from_part as steps_from_part, from_next, from_none}
+use Rattle.places.specs.Layout.{record_for, put_queued}
+use Rattle.places.proofs.Rows.{put_floats_length, put_words_length, record_length, distance_length}
+use Rattle.places.proofs.Queued.{put_queued_length}
 use Rattle.machine.specs.declared.Task.{Task}
+use Rattle.machine.specs.declared.Counts.{Counts}
 use Rattle.machine.specs.declared.Origin.{Origin}
 use Rattle.machine.specs.declared.buffers.Buffers.{Buffers}
 use Rattle.machine.specs.Buffers.{SameBuffers}
-use Rattle.machine.specs.Search.{State, Making, making, made_if, made_all}
+use Rattle.machine.specs.Search.{State, state_of, Making, making, recorded, queued, is_beaten, kept, placed, taken, made, made_if, made_all}
 use Rattle.machine.specs.Sound.{Fit, OnRecord, Leaves}
 use Rattle.machine.proofs.Numbers.{on_made_if}
-use Rattle.machine.proofs.Fitting.{fit_made}
+use Rattle.machine.proofs.Fitting.{recorded_found, recorded_new, fit_made}
 use Rattle.making.proofs.Parts.{unless_full, made_alone, made_both, each_keeps}
 
 -- ---- the lent slices
 
 pub still_same : (a b c : Buffers) → SameBuffers a b → SameBuffers b c → SameBuffers a c
 still_same a b c one more = (more.0 ∙ one.0, more.1 ∙ one.1, more.2 ∙ one.2)
+
+-- ---- making nodes leaves each lent buffer as long as it is
+
+-- two states whose buffers are as long as each other's
+pub record AsLong (new old : State) : Type 0 where
+  pub floats_long : length new.work.floats ≡ length old.work.floats
+  pub words_long : length new.work.words ≡ length old.work.words
+  pub queue_long : length new.work.queue ≡ length old.work.queue
+
+pub long_same : (s : State) → AsLong s s
+long_same s = record { floats_long = refl; words_long = refl; queue_long = refl }
+
+pub long_then : {a b c : State} → AsLong c b → AsLong b a → AsLong c a
+long_then h l = record {
+  floats_long = h.floats_long ∙ l.floats_long;
+  words_long = h.words_long ∙ l.words_long;
+  queue_long = h.queue_long ∙ l.queue_long;
+}
+
+pub long_queued : (n : ℕ) (s : State) (c : Counts) (i : ℕ) (b : Bool) → 2 * n ≤ length s.work.queue → AsLong (state_of (put_queued n s.work i b) c) s
+long_queued n s c i b room = record { floats_long = refl; words_long = refl; queue_long = put_queued_length n s.work i b room }
+
+long_recorded : (s : State) (node : Node) → AsLong (recorded s node) s
+unfolding recorded
+long_recorded s node = go (ltb r s.counts.records)
+  where
+    r : ℕ
+    r = record_for s.work.floats s.counts.records node.root
+
+    go : (b : Bool) → AsLong (cond b (recorded_found s node) (recorded_new s node)) s
+    go true = record { floats_long = distance_length s.work.floats r node.length; words_long = refl; queue_long = refl }
+    go false = record { floats_long = record_length s.work.floats r node.root node.length; words_long = refl; queue_long = refl }
+
+long_kept : (n : ℕ) (s : State) (i : ℕ) (node : Node) → 2 * n ≤ length s.work.queue → AsLong (kept n s i node) s
+unfolding kept queued
+long_kept n s i node room = go (is_beaten s node)
+  where
+    after : State
+    after = recorded s node
+
+    once : AsLong after s
+    once = long_recorded s node
+
+    go : (b : Bool) → AsLong (cond b s (state_of (put_queued n after.work i true) after.counts)) s
+    go true = long_same s
+    go false = long_then (long_queued n after after.counts i true (rw once.queue_long room)) once
+
+long_placed : (s : State) (o : Origin) (kind : ℕ) (node : Node) (f : Float) → AsLong (placed s o kind node f) s
+unfolding placed
+long_placed s o kind node f =
+    let number = record_for s.work.floats s.counts.records node.root in
+    record {
+      floats_long = put_floats_length s.work.floats s.counts.taken node f;
+      words_long = put_words_length s.work.words s.counts.taken kind node o.place (o.depth + 1) number;
+      queue_long = refl;
+    }
+
+long_taken : (n : ℕ) (s : State) (o : Origin) (kind : ℕ) (node : Node) (f : Float) → 2 * n ≤ length s.work.queue → AsLong (taken n s o kind node f) s
+unfolding taken
+long_taken n s o kind node f room =
+    let once = long_placed s o kind node f in
+    long_then (long_kept n (placed s o kind node f) s.counts.taken node (rw once.queue_long room)) once
+
+module _ (f : Floor) (t : Task) where
+  long_made : (s : State) (o : Origin) (step : Step) → 2 * t.places ≤ length s.work.queue → AsLong (made f.vertices t s o step).state s
+  unfolding made
+  long_made s o step room = go (is_nan node.length || is_nan (heuristic_of node.root t.trip.goal node.interval)) (leb t.places s.counts.taken)
+    where
+      node : Node
+      node = enter f.vertices o.node step
+
+      value : Float
+      value = add binary32 node.length (heuristic_of node.root t.trip.goal node.interval)
+
+      go : (a b : Bool)
+          → AsLong (cond a (making s false) (cond b (making s true) (making (taken t.places s o (kind_number step.kind) node value) false))).state s
+      go true b = long_same s
+      go false true = long_same s
+      go false false = long_taken t.places s o (kind_number step.kind) node value room
+
+  pub long_made_all : (s : State) (o : Origin) (steps : List Step) → 2 * t.places ≤ length s.work.queue → AsLong (made_all f t s o steps).state s
+  long_made_all s o steps room =
+      each_keeps f t o (λ at. AsLong at s) (λ at step h. long_then (long_made at o step (rw h.queue_long room)) h) steps s (long_same s)
 
 -- ---- what is left of a list
 
@@ -52,11 +144,12 @@ leaves_on h r =
 pub record Yet (f : Floor) (t : Task) (o : Origin) (was at : State) (all rest : List Step) : Type 0 where
   pub fit : Fit t at
   pub numbered : OnRecord at o.node.root o.number
+  pub long : AsLong at was
   pub left : made_all f t was o all ≡ made_all f t at o rest
 
 module _ (f : Floor) (t : Task) (o : Origin) (was : State) (all : List Step) where
   pub yet_all : Fit t was → OnRecord was o.node.root o.number → Yet f t o was was all all
-  yet_all fit numbered = record { fit = fit; numbered = numbered; left = refl }
+  yet_all fit numbered = record { fit = fit; numbered = numbered; long = long_same was; left = refl }
 
   module _ (at : State) where
     pub yet_same : {rest other : List Step} → rest ≡ other → Yet f t o was at all rest → Yet f t o was at all other
@@ -80,6 +173,7 @@ module _ (f : Floor) (t : Task) (o : Origin) (was : State) (all : List Step) whe
             subst (λ (x : Making). OnRecord x.state o.node.root o.number) (sym made)
             (each_keeps f t o (λ s. OnRecord s o.node.root o.number) (λ s step. on_made_if o.node.root o.number f t s o (Some step)) some at
             y.numbered);
+        long = long_then (subst (λ (x : Making). AsLong x.state at) (sym made) (long_made_all f t at o some y.fit.room.queue_room)) y.long;
         left = turned ∙ ap (λ (b : Bool). cond b m (made_all f t m.state o rest)) e;
       }
 

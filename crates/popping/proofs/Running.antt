@@ -9,6 +9,7 @@ use lib.Dec.{eqb}
 use lib.Ieee.{Float}
 use lib.ListN.{length}
 use Rattle.std.specs.Prelude.{Option, Some, None, is_some}
+use Rattle.std.specs.Option.{option_eq}
 use Rattle.float.proofs.Tests.{untrue}
 use Rattle.stored.specs.Stored.{Floor, floor_in}
 use Rattle.edges.specs.Ground.{Ground}
@@ -31,12 +32,23 @@ use Rattle.machine.specs.Search.{popped, calm, noticed, table_after, watched, vi
 use Rattle.machine.specs.Sound.{Begins, Fit, Sound, OnRecord, Numbered, SoundFrom, Watches, SoundSearch, Leaves}
 use Rattle.machine.proofs.Turning.{table_records, sound_step, numbered_step, watches_step}
 use Rattle.machine.proofs.Begun.{sound_begun, on_first, sound_seeded, numbered_seeded}
+use Rattle.making.proofs.Looping.{AsLong, long_same, long_then}
 use Rattle.machine.proofs.Counting.{pops_made_all, pops_step}
+use Rattle.popping.proofs.Lengths.{long_step}
 use Rattle.popping.proofs.Stepping.{least_is}
 
 none_there : (o : Option ℕ) → is_some o ≡ false → o ≡ None
 none_there None e = refl
 none_there (Some w) e = cc
+
+-- the same, asked by `==`
+pub none_by : (E : ℕ → ℕ → Bool) (o : Option ℕ) → option_eq E o None ≡ true → is_some o ≡ false
+none_by E None e = refl
+none_by E (Some w) e = sym e
+
+pub some_by : (E : ℕ → ℕ → Bool) (o : Option ℕ) → option_eq E o None ≡ false → is_some o ≡ true
+some_by E None e = sym e
+some_by E (Some w) e = refl
 
 some_there : (o : Option ℕ) → is_some o ≡ true → (w : ℕ) × (o ≡ Some w)
 some_there None e = cc
@@ -45,6 +57,7 @@ some_there (Some w) e = (w, refl)
 pub record Runs (plan vs ps : List ℕ) (t : Task) (budget : ℕ) (was at : Searching) (left : ℕ) : Type 0 where
   pub ground : Ground plan vs ps
   pub sound : SoundSearch plan vs ps t at
+  pub long : AsLong at.state was.state
   pub table_long : length at.table ≡ length was.table
   pub count : at.state.counts.pops + left < 2 ^ 64
   pub rest : run (floor_in plan vs ps) t budget was ≡ run (floor_in plan vs ps) t left at
@@ -56,6 +69,7 @@ runs_begin {plan} {vs} {ps} {t} {budget} {left} {s} {stall} {table} g h few e al
     subst (λ (y : Stall). Runs plan vs ps t budget (searching s calm table) (searching s y table) left) (sym e) (record {
       ground = g;
       sound = record { from = h; watches = record { patient = λ d. omega arith; records = λ d. untrue d } };
+      long = long_same s;
       table_long = refl;
       count = omega (arith, few, all);
       rest = ap (λ (k : ℕ). run (floor_in plan vs ps) t k (searching s calm table)) all;
@@ -140,6 +154,10 @@ module _ {plan vs ps : List ℕ} {t : Task} {budget : ℕ} {was at : Searching} 
                 };
                 watches = subst (λ (x : Turn). Watches x.search) (sym stepped) (watches_step plan vs ps t seed g at sound r.sound.watches);
               };
+              long =
+                  long_then
+                  (subst (λ (x : Turn). AsLong x.search.state at.state) (sym stepped) (long_step f t at r.sound.from.sound.fit.room.queue_room))
+                  r.long;
               table_long = table_long ∙ r.table_long;
               count = let p = rw (← stepped) at (pops_step f t at) in omega (arith, p, r.count, some);
               rest = turned ∙ ap (λ (o : Option Finish). onwards f t onto o (run f t fewer)) e;

@@ -19,7 +19,7 @@ use Rattle.machine.specs.declared.Task.{Task}
 use Rattle.machine.specs.declared.Counts.{Counts}
 use Rattle.machine.specs.declared.Origin.{Origin}
 use Rattle.machine.specs.declared.Finish.TheVariants.{Arrived, Filled, Crowded}
-use Rattle.places.specs.Layout.{work_of, node_at, parent_in, number_in, number_at, record_for, record_distance, f_at, is_queued, least_in}
+use Rattle.places.specs.Layout.{work_of, node_at, parent_in, depth_at, number_in, number_at, record_for, record_distance, f_at, is_queued, least_in}
 use Rattle.seen.specs.declared.Entry.{Entry}
 use Rattle.seen.specs.declared.Entry.TheVariants.{New, Seen, NoRoom}
 use Rattle.seen.specs.Table.{key_of, remembered_of, remembered}
@@ -111,6 +111,11 @@ module _ {plan vs ps : List ℕ} {t : Task} (x : Searching) (h : SoundFrom plan 
     visits_new d pursuit =
         ap (λ (y : Stepping). turning (searching y.state x.stall table) y.outcome) pursuit
         ∙ ap (λ (y : Entry). met f t x i y table) (sym d) ∙ visits_met
+
+  -- what its steps are made from
+  pub origin_is : {depth : ℕ} → depth ≡ depth_at s.work i → record { place = i; depth = depth; number = number; node = node } ≡ origin_at s.work i
+  unfolding origin_at
+  origin_is d = rw (d, p.numbered, p.read) refl
 
 -- ---- a node that is new
 

@@ -6,15 +6,12 @@ ghost use Rattle.std.specs.Prelude.{◌≡◌, ◌≤◌, length};
 ghost use Rattle.says.specs.Words.{words_of, floor_words_of, route_words_of, laid};
 
 // The words for a number of document 01, at the front of the room, and how many bytes they take.
-#[tactic(auto, unfolding(crate::specs::Words::laid))]
 pub fn words(number: u32, room: &mut [u8; 64]) -> usize
     ensures value { result ≡ length (words_of number) }
     ensures room_after { room.new ≡ laid (words_of number) room.old }
     ensures upper_bound { result ≤ length room.new }
 {
-    let text = text(number);
-    room[..text.len()].copy_from_slice(text);
-    text.len()
+    copy(text(number), room)
 }
 
 // The words for a number, where they stand in the program. The table stands in three functions, which are proved in half the time of
@@ -68,4 +65,15 @@ fn route_text(number: u32) -> &'static [u8]
         23 => b"not the true end",
         _ => b"a number with no meaning",
     }
+}
+
+// The text at the front of the room, and how many bytes it takes.
+#[tactic(auto, unfolding(crate::specs::Words::laid))]
+pub fn copy(text: &[u8], room: &mut [u8]) -> usize
+    requires { length text.now ≤ length room.old }
+    ensures value { result ≡ length text.now }
+    ensures room_after { room.new ≡ laid text.now room.old }
+{
+    room[..text.len()].copy_from_slice(text);
+    text.len()
 }

@@ -6,11 +6,14 @@ ghost use Rattle.point.specs.Point.{same_of};
 ghost use Rattle.plan.specs.Plan.{polygon_count_in};
 ghost use Rattle.edges.specs.AcceptedFloor.{the_floor};
 ghost use Rattle.places.specs.Layout.{work_of, places_in, Room};
-ghost use Rattle.machine.specs.Buffers.{work_in, SameBuffers};
+ghost use Rattle.machine.specs.Buffers.{work_in, state_in, SameBuffers};
+ghost use Rattle.machine.specs.Search.{ending};
+ghost use Rattle.writing.specs.Delivered.{delivered};
+ghost use Rattle.writing.specs.Writing.{Tells};
 ghost use Rattle.search.specs.Whole.{lent_of, searched_of, routed, between_of, asked_of, search_of};
 
 use edges::AcceptedFloor;
-use machine::{Buffers, Task};
+use machine::{Buffers, Ended, Task};
 use plan::Plan;
 use popping::search_from;
 use steps::Trip;
@@ -25,6 +28,17 @@ fn places_of(work: &Buffers) -> usize
     ensures { result ≡ places_in (work_in work.now) }
 {
     places::places_in(work.floats, work.words, work.queue)
+}
+
+// Tells how the search ended, by the rows of floats and of words.
+fn tell_by(trip: Trip, ended: Ended, work: &Buffers, out: &mut [u8]) -> Answer
+    requires { Tells work.now.floats.now work.now.words.now ended.finish }
+    ensures answer { let end = ending (state_in work.now ended.counts) ended.finish in
+        result ≡ (delivered trip end out.old).answer }
+    ensures out_after { let end = ending (state_in work.now ended.counts) ended.finish in
+        out.new ≡ (delivered trip end out.old).out }
+{
+    tell(trip, ended, work.floats, work.words, out)
 }
 
 // The task's trip: start and goal in one polygon, or a search.
@@ -50,7 +64,7 @@ fn route_from(
         return write_straight(trip, out);
     }
     let ended = search_from(floor, task, budget, work, table);
-    tell(trip, ended, work, out)
+    tell_by(trip, ended, work, out)
 }
 
 // The trip with as many places as were lent.

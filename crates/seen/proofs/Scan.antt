@@ -1,11 +1,22 @@
 -- Looking a key up, one entry after the other: what it has passed, and where it ends. Assumes nothing.
-use Rattle.std.proofs.Common.{◌≡◌, ℕ, ◌+◌, ◌*◌, ◌<◌, ◌≤◌, true, false, List, length, refl, add-one, arith, below_none, below_more, le-ltb, lt-ltb}
+use Rattle.std.proofs.Common.{◌≡◌, ℕ, ◌+◌, ◌*◌, ◌<◌, ◌≤◌, Bool, true, false, List, length, sym, refl, add-one, arith, below_none, below_more, le-ltb, lt-ltb}
+use mathlib.Core.Bool.{beq}
 use Rattle.counts.specs.Counts.{first}
 use Rattle.counts.proofs.Laws.{first_is}
 use Rattle.places.specs.Layout.{most_places}
 use Rattle.seen.specs.declared.Spot.TheVariants.{Held, Free, Nowhere}
 use Rattle.seen.specs.Table.{words_per_entry, entries_in, is_used, holds, first_slot, next, slot_at, stops, spot_at, found_in}
 use Rattle.seen.proofs.Slots.{slot_below}
+
+-- ---- a test for false
+
+pub is_false : (b : Bool) → beq b false ≡ true → b ≡ false
+is_false true h = sym h
+is_false false h = refl
+
+pub is_true : (b : Bool) → beq b false ≡ false → b ≡ true
+is_true true h = refl
+is_true false h = sym h
 
 -- ---- the entries lie in the table
 

@@ -44,7 +44,11 @@ pub enum Spot {
 pub fn entries_in(table: &[u32]) -> usize
     ensures { result ≡ entries_in table.now }
 {
-    (table.len() / ENTRY).min(MOST_PLACES)
+    let words = table.len();
+    if MOST_PLACES * ENTRY <= words {
+        return MOST_PLACES;
+    }
+    (words as u32 / 10) as usize
 }
 
 // No entry is used.

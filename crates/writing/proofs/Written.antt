@@ -37,6 +37,14 @@ Delivers d r after = (r ≡ d.answer) × (after ≡ d.out)
 delivers : {d : Delivered} {r : Answer} {after : List ℕ} → d ≡ delivered_of r after → Delivers d r after
 delivers e = (sym (ap (λ (t : Delivered). t.answer) e), sym (ap (λ (t : Delivered). t.out) e))
 
+-- so they are whatever the queue holds, which is not read
+abbrev AnyDelivers : (List ℕ → Delivered) → Answer → List ℕ → Type 0
+AnyDelivers d r after = ((queue : List ℕ) → r ≡ (d queue).answer) × ((queue : List ℕ) → after ≡ (d queue).out)
+
+any_delivers : (d : List ℕ → Delivered) {r : Answer} {after : List ℕ} → ((queue : List ℕ) → d queue ≡ delivered_of r after)
+    → AnyDelivers d r after
+any_delivers d e = ((λ queue. (delivers (e queue)).0), (λ queue. (delivers (e queue)).1))
+
 -- ---- one record
 
 -- a record put between what stands before it and what stands behind
@@ -219,22 +227,22 @@ straight_told trip out {node} {last} {seed} {after} {end} l a b c d e =
     let its : end ≡ straight_put trip out = e ∙ rw (c, end_bytes_lem trip node (seed_of trip) last a b, seed_bytes_lem trip seed d) in
     delivers (straight_written trip out l ∙ ap (delivered_of (Found 0 (2 * 32))) (sym its))
 
-module _ (floats : List Float) (words queue : List ℕ) (trip : Trip) (i steps : ℕ) (out : List ℕ) {depth : ℕ} (its_depth : depth ≡ depth_in words i) where
-  abbrev its_route : Delivered
-  its_route = written (route_bytes (work_of floats words queue) trip i) steps out
+module _ (floats : List Float) (words : List ℕ) (trip : Trip) (i steps : ℕ) (out : List ℕ) {depth : ℕ} (its_depth : depth ≡ depth_in words i) where
+  abbrev its_route : List ℕ → Delivered
+  its_route queue = written (route_bytes (work_of floats words queue) trip i) steps out
 
-  pub route_told_short : length out < (depth + 2) * 32 → Delivers its_route (Short steps) out
-  route_told_short l = delivers (route_short floats words queue trip i steps out (rw its_depth at l))
+  pub route_told_short : length out < (depth + 2) * 32 → AnyDelivers its_route (Short steps) out
+  route_told_short l = any_delivers its_route (λ queue. route_short floats words queue trip i steps out (rw its_depth at l))
 
   pub route_told : {node : Node} {last seed : Record} {after chained end : List ℕ}
       → (depth + 2) * 32 ≤ length out → node ≡ node_in floats words i → last ≡ last_record trip node
       → after ≡ put_record out (depth + 1) (record_bytes last) → chained ≡ put_chain floats words depth i after
       → seed ≡ seed_record trip.from trip.start → end ≡ put_record chained 0 (record_bytes seed)
-      → Delivers its_route (Found steps ((depth + 2) * 32)) end
+      → AnyDelivers its_route (Found steps ((depth + 2) * 32)) end
   route_told {node} {last} {seed} {after} {chained} {end} l a b c d e g =
       let its : end ≡ put_record (put_chain floats words depth i (put_record out (depth + 1) (last_of trip (node_in floats words i)))) 0 (first_of trip)
       = g ∙ rw (d, c, end_bytes_lem trip node (node_in floats words i) last a b, seed_bytes_lem trip seed e) in
-      delivers (route_written floats words queue trip i steps out (rw its_depth at l) ∙ rw its (rw (← its_depth) refl))
+      any_delivers its_route (λ queue. route_written floats words queue trip i steps out (rw its_depth at l) ∙ rw its (rw (← its_depth) refl))
 
 pub seed_few : (trip : Trip) {node : Node} → node ≡ seed_of trip → node.points + 2 < 2 ^ 32
 seed_few trip e = subst (λ (n : Node). n.points + 2 < 2 ^ 32) (sym e) none
@@ -249,23 +257,27 @@ room_kept depth i out bytes e l = omega (arith, ap length e ∙ put_keeps_length
 
 -- ---- how the search ended
 
-module _ (work : Work) (trip : Trip) (counts : Counts) (finish : Finish) (out : List ℕ) where
-  abbrev told : Delivered
-  told = delivered trip (ending (state_of work counts) finish) out
+module _ (floats : List Float) (words : List ℕ) (trip : Trip) (counts : Counts) (finish : Finish) (out : List ℕ) where
+  abbrev told : List ℕ → Delivered
+  told queue = delivered trip (ending (state_of (work_of floats words queue) counts) finish) out
 
   pub told_arrived : {i : ℕ} → finish ≡ Arrived i → {r : Answer} {after : List ℕ}
-      → Delivers (written (route_bytes work trip i) counts.pops out) r after → Delivers told r after
+      → AnyDelivers (λ queue. written (route_bytes (work_of floats words queue) trip i) counts.pops out) r after → AnyDelivers told r after
   unfolding delivered
   told_arrived e h = rw e h
 
-  pub told_emptied : finish ≡ Emptied → Delivers told (NotFound counts.pops) out
-  told_emptied e = delivers (unfold delivered in rw e)
+  pub told_emptied : finish ≡ Emptied → AnyDelivers told (NotFound counts.pops) out
+  unfolding delivered
+  told_emptied e = any_delivers told (λ queue. rw e)
 
-  pub told_filled : finish ≡ Filled → Delivers told (Full counts.pops) out
-  told_filled e = delivers (unfold delivered in rw e)
+  pub told_filled : finish ≡ Filled → AnyDelivers told (Full counts.pops) out
+  unfolding delivered
+  told_filled e = any_delivers told (λ queue. rw e)
 
-  pub told_stopped : finish ≡ Stopped → Delivers told (Spent counts.pops) out
-  told_stopped e = delivers (unfold delivered in rw e)
+  pub told_stopped : finish ≡ Stopped → AnyDelivers told (Spent counts.pops) out
+  unfolding delivered
+  told_stopped e = any_delivers told (λ queue. rw e)
 
-  pub told_crowded : finish ≡ Crowded → Delivers told (TableFull counts.pops) out
-  told_crowded e = delivers (unfold delivered in rw e)
+  pub told_crowded : finish ≡ Crowded → AnyDelivers told (TableFull counts.pops) out
+  unfolding delivered
+  told_crowded e = any_delivers told (λ queue. rw e)

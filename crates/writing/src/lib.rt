@@ -2,17 +2,17 @@
 // What a search answers, and the route's bytes: the seed, the steps down the chain of parents, and the end. They are written
 // from the end backwards, as the chain is walked.
 
-ghost use Rattle.std.specs.Prelude.{◌≡◌, ◌+◌, ◌*◌, ◌≤◌, ◌<◌, ◌^◌, length};
+ghost use Rattle.std.specs.Prelude.{◌≡◌, List, ℕ, ◌+◌, ◌*◌, ◌≤◌, ◌<◌, ◌^◌, length};
 ghost use Rattle.records.specs.Records.{end_record};
 ghost use Rattle.steps.specs.World.{ending_of};
-ghost use Rattle.machine.specs.Buffers.{work_in, state_in};
-ghost use Rattle.machine.specs.Search.{ending};
+ghost use Rattle.places.specs.Layout.{work_of};
+ghost use Rattle.machine.specs.Search.{state_of, ending};
 ghost use Rattle.writing.specs.Answers.{answer_told, answer_steps};
 ghost use Rattle.writing.specs.Delivered.{written, route_bytes, straight_bytes, delivered};
 ghost use Rattle.writing.specs.Writing.{put_chain, ChainLies, Tellable, Tells};
 
 use floor::Refusal;
-use machine::{Buffers, Ended, Finish};
+use machine::{Ended, Finish};
 use places::{depth_at, node_at, parent_at, step_at};
 use point::Point;
 use records::Record;
@@ -51,32 +51,41 @@ fn end_after(goal: Point, node: Node) -> Record
 
 // Writes the steps of the chain that ends at place i, the last one as record `depth`.
 #[tactic(auto, using(crate::proofs::Chaining::chaining_goes_on, crate::proofs::Chaining::chaining_ends))]
-fn write_chain(work: &Buffers, i: usize, depth: usize, out: &mut [u8])
-    requires { ChainLies work.now.floats.now work.now.words.now depth i × ((depth + 1) * 32 ≤ length out.old) }
-    ensures { out.new ≡ put_chain work.now.floats.now work.now.words.now depth i out.old }
+fn write_chain(floats: &[f32], words: &[u32], i: usize, depth: usize, out: &mut [u8])
+    requires { ChainLies floats.now words.now depth i × ((depth + 1) * 32 ≤ length out.old) }
+    ensures { out.new ≡ put_chain floats.now words.now depth i out.old }
 {
     let mut place = i;
     for k in (1..=depth).rev() {
-        let step = step_at(work.floats, work.words, place);
+        let step = step_at(floats, words, place);
         Record::step(step).write(out, k);
-        place = parent_at(work.words, place) as usize;
+        place = parent_at(words, place) as usize;
     }
 }
 
 // Writes the route of this trip that ends at place i, if there is room.
-fn write_route(trip: Trip, i: usize, steps: usize, work: &Buffers, out: &mut [u8]) -> Answer
-    requires { Tellable work.now.floats.now work.now.words.now i }
-    ensures answer { result ≡ (written (route_bytes (work_in work.now) trip i) steps out.old).answer }
-    ensures out_after { out.new ≡ (written (route_bytes (work_in work.now) trip i) steps out.old).out }
+fn write_route(
+    trip: Trip,
+    i: usize,
+    steps: usize,
+    floats: &[f32],
+    words: &[u32],
+    out: &mut [u8],
+) -> Answer
+    requires { Tellable floats.now words.now i }
+    ensures answer { let work = work_of floats.now words.now in
+        ((queue : List ℕ) → result ≡ (written (route_bytes (work queue) trip i) steps out.old).answer) }
+    ensures out_after { let work = work_of floats.now words.now in
+        ((queue : List ℕ) → out.new ≡ (written (route_bytes (work queue) trip i) steps out.old).out) }
 {
-    let depth = depth_at(work.words, i) as usize;
+    let depth = depth_at(words, i) as usize;
     let bytes = (depth + 2) * Record::BYTES;
     if out.len() < bytes {
         return Answer::Short { steps };
     }
-    let node = node_at(work.floats, work.words, i);
+    let node = node_at(floats, words, i);
     end_after(trip.goal, node).write(out, depth + 1);
-    write_chain(work, i, depth, out);
+    write_chain(floats, words, i, depth, out);
     Record::seed(trip.from, trip.start).write(out, 0);
     Answer::Found { steps, bytes }
 }
@@ -97,18 +106,20 @@ pub fn write_straight(trip: Trip, out: &mut [u8]) -> Answer
 }
 
 // Tells how the search ended, and writes the route if it arrived.
-pub fn tell(trip: Trip, ended: Ended, work: &Buffers, out: &mut [u8]) -> Answer
-    requires { Tells work.now.floats.now work.now.words.now ended.finish }
-    ensures answer { let end = ending (state_in work.now ended.counts) ended.finish in
-        result ≡ (delivered trip end out.old).answer }
-    ensures out_after { let end = ending (state_in work.now ended.counts) ended.finish in
-        out.new ≡ (delivered trip end out.old).out }
+pub fn tell(trip: Trip, ended: Ended, floats: &[f32], words: &[u32], out: &mut [u8]) -> Answer
+    requires { Tells floats.now words.now ended.finish }
+    ensures answer { let work = work_of floats.now words.now in
+        let finish = ended.finish in
+        ((queue : List ℕ) → result ≡ (delivered trip (ending (state_of (work queue) ended.counts) finish) out.old).answer) }
+    ensures out_after { let work = work_of floats.now words.now in
+        let finish = ended.finish in
+        ((queue : List ℕ) → out.new ≡ (delivered trip (ending (state_of (work queue) ended.counts) finish) out.old).out) }
 {
     let counts = ended.counts;
     let steps = counts.pops;
     let finish = ended.finish;
     match finish {
-        Finish::Arrived(i) => write_route(trip, i, steps, work, out),
+        Finish::Arrived(i) => write_route(trip, i, steps, floats, words, out),
         Finish::Emptied => Answer::NotFound { steps },
         Finish::Filled => Answer::Full { steps },
         Finish::Stopped => Answer::Spent { steps },

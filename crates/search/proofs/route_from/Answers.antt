@@ -23,11 +23,11 @@ search_from-ended-requires c =
       self = h.start_value;
     }
 
-pub tell-requires : goal.tell-requires
-tell-requires c =
+pub tell_by-requires : goal.tell_by-requires
+tell_by-requires c =
     let h = c.requires in
     routes_told _ _ _ _ _ _ _ (ground c.args.floor.now.accepted) h.room.0 h.room.1 h.ground _ _ c.search_from-ended.ensures.rest
 
 pub returns-clause-searched : goal.returns-clause-searched
 returns-clause-searched c =
-    routes_search _ _ _ _ _ c.if-trip.false _ _ c.search_from-ended.ensures.rest c.tell.ensures.answer c.tell.ensures.out_after
+    routes_search _ _ _ _ _ c.if-trip.false _ _ c.search_from-ended.ensures.rest c.tell_by.ensures.answer c.tell_by.ensures.out_after

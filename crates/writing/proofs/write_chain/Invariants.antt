@@ -3,4 +3,4 @@ use Rattle.writing.proofs.Chaining.{Chaining}
 use Rattle.writing.proofs.write_chain.Given as goal
 
 abbrev pub invariant-loop-k : goal.invariant-loop-k
-invariant-loop-k l = Chaining l.work.floats.now l.work.words.now l.depth l.i l.fn.out l.out l.place l.k
+invariant-loop-k l = Chaining l.floats l.words l.depth l.i l.fn.out l.out l.place l.k

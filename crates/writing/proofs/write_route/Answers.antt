@@ -6,7 +6,7 @@ use Rattle.writing.proofs.write_route.Goals as goal
 
 pub returns-then-out-bytes : goal.returns-then-out-bytes
 returns-then-out-bytes c =
-    let t = route_told_short _ _ c.args.work.now.queue.now _ _ _ _ c.depth_at-depth.ensures c.if-out-bytes.true in
+    let t = route_told_short _ _ _ _ _ _ c.depth_at-depth.ensures c.if-out-bytes.true in
     record { answer = t.0; out_after = t.1 }
 
 -- ---- the end, the chain, the seed
@@ -14,6 +14,6 @@ returns-then-out-bytes c =
 pub returns : goal.returns
 returns c =
     let t =
-    route_told _ _ c.args.work.now.queue.now _ _ _ _ c.depth_at-depth.ensures c.if-out-bytes.false c.node_at-node.ensures c.end_after.ensures c.write.ensures
+    route_told _ _ _ _ _ _ c.depth_at-depth.ensures c.if-out-bytes.false c.node_at-node.ensures c.end_after.ensures c.write.ensures
     c.write_chain.ensures c.seed.ensures c.write-2.ensures in
     record { answer = t.0; out_after = t.1 }
