@@ -10,7 +10,8 @@ use Rattle.walk.specs.declared.Successor.{Successor}
 use Rattle.walk.specs.declared.round.Round.{Round}
 use Rattle.walk.specs.Turns.{is_over_of, edge_number_of}
 use Rattle.plan.specs.Plan.{is_marked}
-use Rattle.stored.specs.Stored.{Floor, Polygon, record_in, vertices_of, floor_in}
+use Rattle.stored.specs.Stored.{Floor, Polygon, record_in, vertices_of, floor_in, Lies}
+use Rattle.stored.proofs.Records.{lies}
 use Rattle.edges.specs.Where.{is_turn, HasEdge}
 use Rattle.edges.specs.Ground.{Ground}
 use Rattle.edges.proofs.Inside.{slot_inside, has_edge, listed_corners}
@@ -19,8 +20,8 @@ use Rattle.steps.specs.declared.Node.{Node}
 use Rattle.view.specs.declared.View.{View}
 use Rattle.steps.specs.Steps.{step_of}
 use Rattle.view.specs.View.{view_of, step_by}
-use Rattle.going.specs.Going.{Stands, Goes}
-use Rattle.going.proofs.Rounds.{its_polygon, turning}
+use Rattle.going.specs.Going.{entry_for, count_for, Stands, Goes}
+use Rattle.going.proofs.Rounds.{its_polygon, entry_in_count, turning}
 use Rattle.view.proofs.Seen.{view_by_plan, step_by_view}
 
 module _ (plan vs ps : List ℕ) (node : Node) (h : Stands plan vs ps node) where
@@ -29,6 +30,13 @@ module _ (plan vs ps : List ℕ) (node : Node) (h : Stands plan vs ps node) wher
 
   abbrev its : Polygon
   its = record_in plan ps node.polygon
+
+  pub polygon_lies : Lies plan ps node.polygon
+  polygon_lies = lies h.listed.polygons_planned node.polygon h.listed.listed
+
+  -- what the walk needs to begin
+  pub begins_at : Lies plan ps node.polygon × (entry_for its node < count_for its node)
+  begins_at = (polygon_lies, entry_in_count plan vs ps node h)
 
   pub edge_inside : (round : Round) → Goes its node round → is_over_of round ≡ false → edge_number_of round < length its.corners
   edge_inside round goes on = slot_inside its _ (turning plan vs ps node h round goes on).edge_in

@@ -81,7 +81,7 @@ module _ (s : ℕ) (vs ps question : List ℕ) (bytes : Bytes ps) (inside : Insi
   verdict route = verdict_of s vs ps question route
 
   told_as : (j : Result Unit Fault) → verdict_told (read_as j) ≡ judged_told j
-  unfolding verdict_told unaccepted_told judged_told
+  unfolding verdict_told unaccepted_told
   told_as (Ok u) = refl
   told_as (Err fault) = refl
 

@@ -2,7 +2,6 @@
 -- told of each verdict. Assumes nothing.
 use Rattle.std.specs.Prelude.{ℕ, ◌&&◌, cond, Result, Ok, Err, List}
 use Rattle.told.specs.declared.Told.{Told}
-use Rattle.told.specs.declared.Told.TheVariants.{Alone}
 use Rattle.told.specs.Told.{number_of, values_of}
 use Rattle.floor.specs.declared.Refusal.{Refusal}
 use Rattle.floor.specs.declared.Inside.{Inside}
@@ -11,7 +10,7 @@ use Rattle.floor.specs.Look.{look_of, refusal_told}
 use Rattle.route.specs.declared.Fault.{Fault}
 use Rattle.route.specs.declared.Fault.TheVariants.{NotEnd}
 use Rattle.route.specs.Record.{record_at, end_bytes}
-use Rattle.route.specs.Judge.{same_bytes, judge_of, fault_told}
+use Rattle.route.specs.Judge.{same_bytes, judge_of, judged_told}
 use Rattle.steps.specs.declared.Node.{Node}
 use Rattle.steps.specs.declared.Trip.{Trip}
 use Rattle.steps.specs.World.{ending_of, is_in_goal, trip_of, world_in}
@@ -51,11 +50,12 @@ verdict_of slots vertices polygons question route =
 
 unfoldable pub unaccepted_told : Unaccepted → Told
 unaccepted_told (Refused refusal) = refusal_told refusal
-unaccepted_told (Untrue fault) = fault_told fault
+-- what is said of a file that is not a true route
+unaccepted_told (Untrue fault) = judged_told (Err fault)
 
 unfoldable pub verdict_told : Result Unit Unaccepted → Told
--- "found, or accepted"
-verdict_told (Ok tt) = Alone 0
+-- "found, or accepted": what is said of a true route
+verdict_told (Ok tt) = judged_told (Ok tt)
 verdict_told (Err unaccepted) = unaccepted_told unaccepted
 
 abbrev pub verdict_number : Result Unit Unaccepted → ℕ

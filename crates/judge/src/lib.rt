@@ -127,22 +127,22 @@ pub fn judge(
 impl From<Unaccepted> for Told {
     ghost from_gives = { λ unaccepted told. told ≡ unaccepted_told unaccepted };
 
-    #[tactic(auto, unfolding(crate::specs::Verdict::unaccepted_told))]
+    #[tactic(auto, unfolding(crate::specs::Verdict::unaccepted_told, route::specs::Judge::judged_told))]
     fn from(unaccepted: Unaccepted) -> Told {
         match unaccepted {
             Unaccepted::Refused(refusal) => Told::from(refusal),
-            Unaccepted::Untrue(fault) => Told::from(fault),
+            Unaccepted::Untrue(fault) => route::told(Err(fault)),
         }
     }
 }
 
 // The same of a verdict: 0 for what is accepted.
-#[tactic(auto, unfolding(crate::specs::Verdict::verdict_told))]
+#[tactic(auto, unfolding(crate::specs::Verdict::verdict_told, route::specs::Judge::judged_told))]
 pub fn told(verdict: Result<(), Unaccepted>) -> Told
     ensures { result ≡ verdict_told verdict }
 {
     match verdict {
-        Ok(()) => Told::Alone(0),
+        Ok(()) => route::told(Ok(())),
         Err(unaccepted) => Told::from(unaccepted),
     }
 }

@@ -14,6 +14,7 @@ use Rattle.stored.specs.Stored.{floor_of, floor_in, question_of}
 use Rattle.floor.specs.Look.{look_of}
 use Rattle.floor.proofs.Asking.{Looked}
 use Rattle.route.specs.declared.Fault.{Fault}
+use Rattle.route.specs.declared.Fault.TheVariants.{Length, NotSeed, NotStep, NotEnd}
 use Rattle.route.specs.World.{World}
 use Rattle.route.specs.Judge.{judge_of}
 use Rattle.steps.specs.declared.Node.{Node}
@@ -49,9 +50,29 @@ module _ (x : Result Unit Fault) (points : List Point) (out : List Float) where
       → (r ≡ answer_if (read_as x) points out) × (out' ≡ out_if (read_as x) points out)
   read_accepted r out' e h = (rw e h.0, rw e h.1)
 
+  pub read_length : x ≡ Err Length
+      → (Err (NotAccepted (Untrue Length)) ≡ answer_if (read_as x) points out) × (out ≡ out_if (read_as x) points out)
+  read_length e = (rw e, rw e)
+
+  pub read_seed : x ≡ Err NotSeed
+      → (Err (NotAccepted (Untrue NotSeed)) ≡ answer_if (read_as x) points out) × (out ≡ out_if (read_as x) points out)
+  read_seed e = (rw e, rw e)
+
+  pub read_step : (i : ℕ) → x ≡ Err (NotStep i)
+      → (Err (NotAccepted (Untrue (NotStep i))) ≡ answer_if (read_as x) points out) × (out ≡ out_if (read_as x) points out)
+  read_step i e = (rw e, rw e)
+
+  pub read_end : (i : ℕ) → x ≡ Err (NotEnd i)
+      → (Err (NotAccepted (Untrue (NotEnd i))) ≡ answer_if (read_as x) points out) × (out ≡ out_if (read_as x) points out)
+  read_end i e = (rw e, rw e)
+
+  -- whatever is wrong with the file
   pub read_untrue : (fault : Fault) → x ≡ Err fault
       → (Err (NotAccepted (Untrue fault)) ≡ answer_if (read_as x) points out) × (out ≡ out_if (read_as x) points out)
-  read_untrue fault e = (rw e, rw e)
+  read_untrue Length e = read_length e
+  read_untrue NotSeed e = read_seed e
+  read_untrue (NotStep i) e = read_step i e
+  read_untrue (NotEnd i) e = read_end i e
 
 -- ---- behind the door
 

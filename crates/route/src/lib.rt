@@ -3,7 +3,7 @@
 
 ghost use Rattle.std.specs.Prelude.{◌≡◌};
 ghost use Rattle.route.specs.Step.{kind_number, kind_of};
-ghost use Rattle.route.specs.Judge.{fault_told};
+ghost use Rattle.route.specs.Judge.{fault_told, judged_told};
 
 use cut::SuccessorType;
 use point::Segment;
@@ -69,5 +69,16 @@ impl From<Fault> for Told {
             Fault::NotStep(i) => Told::AtRecord(22, i),
             Fault::NotEnd(i) => Told::AtRecord(23, i),
         }
+    }
+}
+
+// The same of all that the judge says of a route file: 0 for a true route.
+#[tactic(auto, unfolding(crate::specs::Judge::judged_told))]
+pub fn told(judged: Result<(), Fault>) -> Told
+    ensures { result ≡ judged_told judged }
+{
+    match judged {
+        Ok(()) => Told::Alone(0),
+        Err(fault) => Told::from(fault),
     }
 }

@@ -7,7 +7,11 @@ use mathlib.Core.List.{List, [], ◌∷◌, ◌++◌}
 use borrow.Author.Tests.{eq-eqb, ne_eqb}
 use lib.Dec.{eqb}
 use Rattle.std.specs.Prelude.{Option, Some, None}
+use Rattle.point.specs.declared.Point.{Point}
 use Rattle.point.specs.declared.Segment.{Segment}
+use Rattle.point.specs.Point.{same_of}
+use Rattle.cone.specs.Cone.{clip_to_cone_of}
+use Rattle.cut.specs.declared.SuccessorType.{SuccessorType}
 use Rattle.walk.specs.declared.Walked.{Walked}
 use Rattle.walk.specs.declared.Part.{Part}
 use Rattle.walk.specs.declared.Successor.{Successor}
@@ -23,13 +27,25 @@ use Rattle.route.specs.declared.Step.{Step}
 use Rattle.route.specs.Step.{kind_number}
 use Rattle.records.specs.Records.{kind_word, polygon_word, first_word, second_word}
 use Rattle.steps.specs.declared.Node.{Node}
-use Rattle.steps.specs.Steps.{is_interval, is_allowed, clipped, if_seen, step_of, and_then, steps_over, steps_from}
+use Rattle.steps.specs.Steps.{is_interval, is_allowed, root_after, clipped, if_seen, step_of, and_then, steps_over, steps_from}
 use Rattle.view.proofs.Seen.{allowed_by_plan}
 use Rattle.going.specs.Going.{begin_round, walked_on, left_in, Yielded, Stands, Goes}
 use Rattle.going.proofs.Rounds.{edges_left, begin_goes, next_goes, fewer_left, its_polygon}
 use Rattle.going.proofs.Left.{left_begin, steps_left_next, left_over}
 use Rattle.going.proofs.Parts.{from_part, successor_at, from_next, from_none}
 use Rattle.seek.specs.Seek.{is_step_at, is_among, edge_stands, ends_at, part_stands}
+
+-- ---- what a node sees of an interval
+
+module _ (vertices : List Point) (node : Node) (kind : SuccessorType) (interval : Segment) (other : node.seed ≡ false)
+    {next : Point} (after : next ≡ root_after vertices node kind) {b : Bool} (same : b ≡ same_of next node.root) where
+  pub sees_clipped : {v : Option Segment} → b ≡ true → v ≡ clip_to_cone_of node.root node.interval interval → v ≡ clipped vertices node kind interval
+  unfolding clipped
+  sees_clipped t e = rw (← after, ← same, t, other) e
+
+  pub sees_whole : b ≡ false → Some interval ≡ clipped vertices node kind interval
+  unfolding clipped
+  sees_whole t = rw (← after, ← same, t, other)
 
 -- ---- one part of an edge
 

@@ -118,7 +118,7 @@ impl View {
 
     // The step over a part of an edge of the node's polygon, or none. It is asked for in two, the neighbour first: at a wall, and
     // where the kind is not allowed, nothing is laid out for the clip.
-    #[tactic(auto, unfolding(crate::specs::View::step_by))]
+    #[tactic(auto, unfolding(crate::specs::View::step_by, crate::specs::View::neighbour_by, stored::specs::Stored::across))]
     pub fn step(self, polygon: &StoredPolygon, successor: Successor) -> Option<Step>
         requires { successor.edge < length polygon.now.corners }
         ensures { result ≡ step_by polygon.now self successor }

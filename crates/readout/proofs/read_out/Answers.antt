@@ -49,6 +49,6 @@ returns-clause-value c =
 
 pub returns-clause-points_after : goal.returns-clause-points_after
 returns-clause-points_after c =
-    let h = looked _ c.look_with.ensures.value c.in_ok-inside.was c.look_with.ensures.plan_after in
-    (reads_inside 8 _ _ _ _ _ c.look_with.ensures.value c.in_ok-inside.was h c.of-trip.ensures
+    (reads_inside 8 _ _ _ _ _ c.look_with.ensures.value c.in_ok-inside.was
+    (looked _ c.look_with.ensures.value c.in_ok-inside.was c.look_with.ensures.plan_after) c.of-trip.ensures
     (c.read_route.ensures.result_value, c.read_route.ensures.points_after)).1
