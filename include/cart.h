@@ -13,7 +13,7 @@
    geometry.h, which comes with this file, has document 01's geometry, the clip and the walk of one edge; they have libraries of
    their own.
 
-   Stack, with the arguments, on x86-64: cart_search 2,028 bytes, cart_judge 1,064, cart_read_out 1,224, cart_words 24. That is what
+   Stack, with the arguments, on x86-64: cart_search 2,028 bytes, cart_judge 1,064, cart_read_out 1,224, cart_words 8. That is what
    examples/stack.c measures (docs/DECISIONS.md). */
 
 #ifndef CART_H
